@@ -1,0 +1,24 @@
+-- Laws that several proofs cite; each file says its argument in its first line.
+pub mod Folds
+pub mod Bits
+pub mod Numbers
+pub mod Slots
+pub mod FirstBad
+pub mod WriteSets
+pub mod TestWords
+pub mod RuleWords
+pub mod Says
+pub mod Ascending
+pub mod Quick
+pub mod Reader
+pub mod RowLoop
+pub mod Givens
+pub mod Masks
+pub mod Kind1
+pub mod Kind2
+pub mod Built
+pub mod Parts
+pub mod Written
+pub mod ReadBack
+pub mod Keeps
+pub mod Theorems

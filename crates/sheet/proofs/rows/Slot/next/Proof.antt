@@ -1,0 +1,14 @@
+-- The code's test is the one that `nextSlot` asks.
+use borrow.Author.Needs.{needs}
+use borrow.Author.Tests.{lt-ltb, le-ltb}
+use Rattle.sheet.proofs.rows.Slot.next.Statement.{statement}
+use Rattle.sheet.proofs.rows.Slot.next.Tie as tie
+
+returns : tie.Need-returns
+returns c = simp (lt-ltb _ _ (c .if1 .taken))
+
+returns-2 : tie.Need-returns-2
+returns-2 c = simp (le-ltb _ _ (c .if1 .left))
+
+pub next-spec : {M : Type 1} → statement M
+next-spec = tie.close (tie.spec (λ c. search needs) (λ c. search needs) returns returns-2)

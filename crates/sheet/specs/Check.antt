@@ -1,0 +1,51 @@
+-- The check of a sheet: the first rule that fails, in the order 1, 2, 3, 4, 5 for all rows, 6.
+use Prim.Native.Nat.{ℕ}
+use mathlib.Core.List.{List}
+use mathlib.Core.Bool.{Bool, not, _&&_, cond}
+use lib.ListN.{length, getD}
+use lib.Dec.{leb, ltb, eqb}
+use Rattle.sheet.specs.Lists.{firstBad}
+use Rattle.sheet.specs.Bytes.{num}
+use Rattle.sheet.specs.Rows.{Layout, layoutOf, slots, sheetLength}
+use Rattle.sheet.specs.Rules.{rowRule, writerRule}
+
+-- a number and a position; number 0 is "done"
+pub record Answer : Type 0 where
+  pub number : ℕ
+  pub position : ℕ
+
+abbrev pub answer : ℕ → ℕ → Answer
+answer n k = record { number = n; position = k }
+
+abbrev pub done : Answer
+done = answer 0 0
+
+abbrev pub within : ℕ → ℕ → ℕ → Bool
+within lo hi x = leb lo x && leb x hi
+
+-- kind 1 or 2, bound 1 to 64, N 1 to 16
+abbrev pub numbersOk : ℕ → ℕ → ℕ → Bool
+numbersOk kind bound n = within 1 2 kind && within 1 64 bound && within 1 16 n
+
+-- and units 1 to 1,024
+abbrev pub headerOk : Layout → Bool
+headerOk l = numbersOk (l .kind) (l .bound) (l .parties) && within 1 1024 (l .units)
+
+-- the length field and the lent length
+abbrev pub lengthOk : List ℕ → Bool
+lengthOk s = eqb (num s 0 2) (sheetLength (getD s 5 0)) && eqb (length s) (sheetLength (getD s 5 0))
+
+-- refusal number n at the first failing row k, or what comes after where there is none
+abbrev pub unlessRow : ℕ → ℕ → Answer → Answer
+unlessRow n k after = cond (eqb k 0) after (answer n k)
+
+abbrev pub checkRows : Layout → Answer
+checkRows l =
+    unlessRow 5 (firstBad (rowRule l) 1 (slots (l .parties))) (unlessRow 6 (firstBad (writerRule l) 1 (slots (l .parties))) done)
+
+abbrev pub checkAnswer : List ℕ → Answer
+checkAnswer s =
+    cond (ltb (length s) 8) (answer 1 0)
+    (cond (not (eqb (getD s 2 0) 1)) (answer 2 0)
+    (cond (not (headerOk (layoutOf s))) (answer 3 0)
+    (cond (not (lengthOk s)) (answer 4 0) (checkRows (layoutOf s)))))

@@ -1,0 +1,14 @@
+-- Document 01's sheets, in its order: read from the top.
+pub mod Lists
+pub mod Bytes
+pub mod Sets
+pub mod Length
+pub mod Rows
+pub mod Rules
+pub mod Check
+pub mod Build
+pub mod Answers
+pub mod Words
+pub mod Quick
+pub mod Given
+pub mod Says

@@ -1,0 +1,174 @@
+// The rows of a sheet and the reader that goes from one to the next.
+ghost use mathlib.Core.Path.{_≡_};
+ghost use Prim.Native.Nat.{_+_, _<_, _≤_};
+ghost use lib.ListN.{length, drop};
+ghost use Rattle.sheet.specs.Rows.{slot, nextSlot, rowCount, sheetLength, rowFrom, taken, rowPlace, rowOf};
+use crate::bytes;
+
+pub struct Row {
+    pub start: u16,
+    pub mask: u64,
+    pub own: u16,
+    pub pair: u16,
+}
+
+// Whose a row is.
+pub struct Slot {
+    pub round: usize,
+    pub party: usize,
+}
+
+// A row that was read, and the next place.
+pub struct Taken {
+    pub row: Row,
+    pub next: usize,
+}
+
+// The lent sheet, and the place of the next row, counted from 0.
+pub struct RowReader<'a> {
+    pub sheet: &'a [u8],
+    pub row: usize,
+}
+
+impl Slot {
+    // The first row's.
+    pub fn first() -> Self
+        ensures { λ r. ⌜ r ≡ slot 2 1 ⌝ }
+    {
+        Slot { round: 2, party: 1 }
+    }
+
+    // The next row's: the round's next party, or after the top the next round's first.
+    pub(crate) fn next(self) -> Self
+        requires { ⌜ self .round < 256 ⌝ }
+        ensures { λ r. ⌜ r ≡ nextSlot self ⌝ }
+    {
+        let round = self.round;
+        let party = self.party;
+        if party < round {
+            Slot {
+                round,
+                party: party + 1,
+            }
+        } else {
+            Slot {
+                round: round + 1,
+                party: 1,
+            }
+        }
+    }
+}
+
+pub(crate) fn row_count(n: usize) -> usize
+    requires { ⌜ (1 ≤ n) × (n ≤ 255) ⌝ }
+    ensures { λ r. ⌜ r ≡ rowCount n ⌝ }
+{
+    n * (n + 1) / 2 - 1
+}
+
+// The length of a whole sheet.
+pub(crate) fn sheet_length(n: usize) -> usize
+    requires { ⌜ (1 ≤ n) × (n ≤ 255) ⌝ }
+    ensures { λ r. ⌜ r ≡ sheetLength n ⌝ }
+{
+    8 + 14 * row_count(n)
+}
+
+// The row that 14 bytes say.
+fn row_from(s: &[u8], at: usize) -> Row
+    requires { ⌜ at + 14 ≤ length (now s) ⌝ }
+    ensures { λ r. ⌜ r ≡ rowFrom (drop at (now (s .entry))) ⌝ }
+{
+    Row {
+        start: bytes::two(s, at),
+        mask: bytes::eight(s, at + 2),
+        own: bytes::two(s, at + 10),
+        pair: bytes::two(s, at + 12),
+    }
+}
+
+// The work of the reader: the row at a place, and the next place.
+pub fn row_at(s: &[u8], row: usize) -> Taken
+    ensures { λ r. ⌜ r ≡ taken (now (s .entry)) row ⌝ }
+{
+    if row < 135 {
+        let at = 8 + 14 * row;
+        if at + 14 <= s.len() {
+            return Taken {
+                row: row_from(s, at),
+                next: row + 1,
+            };
+        }
+    }
+    Taken {
+        row: Row {
+            start: 0,
+            mask: 0,
+            own: 0,
+            pair: 0,
+        },
+        next: row,
+    }
+}
+
+// ---- the reader
+
+// A reader at the sheet's first row.
+pub fn rows_of<'a>(sheet: &'a [u8]) -> RowReader<'a>
+    ensures { λ r. ⌜ (r .sheet ≡ sheet .entry) × (r .row ≡ 0) ⌝ }
+{
+    RowReader { sheet, row: 0 }
+}
+
+// A reader at any row.
+pub fn rows_from<'a>(sheet: &'a [u8], row: usize) -> RowReader<'a>
+    ensures { λ r. ⌜ (r .sheet ≡ sheet .entry) × (r .row ≡ row) ⌝ }
+{
+    RowReader { sheet, row }
+}
+
+// The row at the reader's place, and the place goes on.
+pub fn next_row<'s, 'a>(r: &'s mut RowReader<'a>) -> Row
+    ensures { λ t. ⌜ (t ≡ taken (now (now (r .entry) .sheet)) (now (r .entry) .row) .row) × ((now (r .exit) .sheet ≡ now (r .entry) .sheet) × (now (r .exit) .row ≡ taken (now (now (r .entry) .sheet)) (now (r .entry) .row) .next)) ⌝ }
+{
+    let v = row_at(r.sheet, r.row);
+    r.row = v.next;
+    v.row
+}
+
+// A reader made at a row, lent and read: plain parameters, so that who calls this holds no reader.
+pub fn row_after(s: &[u8], row: usize) -> Taken
+    ensures { λ t. ⌜ t ≡ taken (now (s .entry)) row ⌝ }
+{
+    let mut r = rows_from(s, row);
+    let t = next_row(&mut r);
+    let n = r.row;
+    Taken { row: t, next: n }
+}
+
+// The place of a party's row of a round, or a place with no row where there can be none.
+fn row_place(round: usize, party: usize) -> usize
+    ensures { λ r. ⌜ r ≡ rowPlace round party ⌝ }
+{
+    if round < 2 {
+        return 135;
+    }
+    if 16 < round {
+        return 135;
+    }
+    if party < 1 {
+        return 135;
+    }
+    if round < party {
+        return 135;
+    }
+    round * (round - 1) / 2 - 1 + party - 1
+}
+
+// A party's row of a round, or no row where there can be none.
+pub fn row_of(s: &[u8], round: usize, party: usize) -> Row
+    ensures { λ r. ⌜ r ≡ rowOf (now (s .entry)) round party ⌝ }
+{
+    let t = row_after(s, row_place(round, party));
+    t.row
+}
