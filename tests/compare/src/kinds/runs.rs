@@ -1,0 +1,176 @@
+//! The cases of the run and its record.
+
+use crate::huge::{Huge, LENGTH};
+use crate::judge::{Going, Judge, Stop};
+use crate::make::{damage, schedules, sheets};
+use crate::model::run::record_length;
+use crate::model::sheet;
+use crate::tally::{Group, Kind};
+
+/// Entries of a schedule, each with how often it comes in a row.
+type Bursts = &'static [(u8, usize)];
+
+/// The groups of this kind.
+pub struct Runs {
+    exact: Group,
+    longer: Group,
+    short: Group,
+    empty: Group,
+    finished: Group,
+    bad_byte: Group,
+    proposals: Group,
+    sheet: Group,
+    several: Group,
+    worked: Group,
+    every_byte: Group,
+    all_schedules: Group,
+    huge: Option<Group>,
+}
+
+impl Runs {
+    /// With `huge`, schedules of 2^32 bytes are tried too, which takes minutes.
+    pub fn new(judge: &mut Judge, huge: bool) -> Runs {
+        let mut group = |name| judge.group(Kind::Runs, name);
+        Runs {
+            exact: group("run, output of exact length"),
+            longer: group("run, output longer"),
+            short: group("run, output too short by one"),
+            empty: group("run, output empty"),
+            finished: group("run until all have decided or stopped"),
+            bad_byte: group("run, bad byte"),
+            proposals: group("run, proposals of a wrong length"),
+            sheet: group("run, sheet damaged"),
+            several: group("run, several faults at once"),
+            worked: group("run, the schedules of P1 to P9"),
+            every_byte: group("run, each byte alone and behind a good one"),
+            all_schedules: group("run, all schedules of N = 2 up to length 8"),
+            huge: huge.then(|| group("run, schedules of 2^32 bytes and one less")),
+        }
+    }
+
+    /// The cases that are run once and whole.
+    pub fn fixed(&self, judge: &mut Judge) -> Going<()> {
+        self.worked_cases(judge)?;
+        self.each_byte(judge)?;
+        self.each_schedule(judge)?;
+        self.huge.map_or(Ok(()), |group| huge(judge, group))
+    }
+
+    /// A slice of the random cases.
+    pub fn random(&self, judge: &mut Judge) -> Going<()> {
+        let draft = sheets::any_good(&mut judge.rng);
+        let parties = usize::from(draft.parties);
+        let good = draft.bytes();
+        let right = schedules::proposals(&mut judge.rng, parties);
+        let most = judge.rng.pick(&[8, 60, 400]);
+        let length = judge.rng.from_to(0, most);
+        let schedule = schedules::schedule(&mut judge.rng, parties, length);
+        let exact = record_length(parties);
+        let more = exact + judge.rng.from_to(1, 60);
+        judge.run(self.exact, &good, &right, &schedule, exact)?;
+        judge.run(self.longer, &good, &right, &schedule, more)?;
+        judge.run(self.short, &good, &right, &schedule, exact - 1)?;
+        judge.run(self.empty, &good, &right, &schedule, 0)?;
+        let long = schedules::schedule(&mut judge.rng, parties, 150 * parties);
+        judge.run(self.finished, &good, &right, &long, exact)?;
+        // A bad byte, sometimes two, at the beginning, the end or between.
+        let mut bad = schedule.clone();
+        for _ in 0..judge.rng.from_to(1, 2) {
+            let at = match judge.rng.below(4) {
+                0 => 0,
+                1 => bad.len(),
+                _ => judge.rng.below(bad.len() + 1),
+            };
+            bad.insert(at, schedules::bad_byte(&mut judge.rng, parties));
+        }
+        let length = judge.rng.pick(&[exact, more, exact - 1, 0]);
+        judge.run(self.bad_byte, &good, &right, &bad, length)?;
+        let length = schedules::wrong_length(&mut judge.rng, parties);
+        let wrong = judge.rng.bytes(length);
+        judge.run(self.proposals, &good, &wrong, &schedule, exact)?;
+        let damaged = damage::any(&mut judge.rng, draft);
+        judge.run(self.sheet, &damaged, &right, &schedule, exact)?;
+        judge.run(self.several, &damaged, &wrong, &bad, 0)?;
+        judge.run(self.several, &good, &wrong, &bad, exact - 1)?;
+        judge.run(self.several, &damaged, &right, &bad, exact)?;
+        Ok(())
+    }
+
+    /// The schedules of P1 to P9, one entry longer each time.
+    fn worked_cases(&self, judge: &mut Judge) -> Going<()> {
+        let cases: [(u32, u32, Bursts); 9] = [
+            (3, 1, &[(1, 2)]),
+            (3, 2, &[(1, 5)]),
+            (3, 2, &[(2, 4)]),
+            (3, 2, &[(2, 2), (1, 7), (2, 3)]),
+            (3, 2, &[(1, 3), (2, 6), (1, 4)]),
+            (3, 2, &[(1, 2), (129, 1), (2, 4)]),
+            (3, 2, &[(1, 3), (129, 1), (2, 6)]),
+            (5, 3, &[(1, 8), (2, 9), (3, 6)]),
+            (5, 3, &[(3, 5)]),
+        ];
+        for (bound, parties, bursts) in cases {
+            let sheet = sheet::built(1, bound, parties).expect("the worked cases have sheets");
+            let proposals: Vec<u8> = (0..parties)
+                .flat_map(|i| (500 + 100 * i).to_be_bytes())
+                .collect();
+            let schedule: Vec<u8> = bursts
+                .iter()
+                .flat_map(|(byte, count)| vec![*byte; *count])
+                .collect();
+            for length in 0..=schedule.len() {
+                let exact = record_length(parties as usize);
+                let part = &schedule[..length];
+                judge.run(self.worked, &sheet, &proposals, part, exact)?;
+            }
+        }
+        Ok(())
+    }
+
+    /// Each byte as the only entry and as the second one, for all N.
+    fn each_byte(&self, judge: &mut Judge) -> Going<()> {
+        for parties in 1..=16 {
+            let sheet = sheet::built(2, 31, parties).expect("31 is large enough");
+            let proposals = schedules::proposals(&mut judge.rng, parties as usize);
+            let exact = record_length(parties as usize);
+            for byte in 0..=255 {
+                judge.run(self.every_byte, &sheet, &proposals, &[byte], exact)?;
+                judge.run(self.every_byte, &sheet, &proposals, &[1, byte], exact)?;
+            }
+        }
+        Ok(())
+    }
+
+    /// All schedules of N = 2 up to length 8.
+    fn each_schedule(&self, judge: &mut Judge) -> Going<()> {
+        let sheet = sheet::built(1, 3, 2).expect("the document's sheet");
+        let proposals: Vec<u8> = [500u32, 600].iter().flat_map(|p| p.to_be_bytes()).collect();
+        for length in 0..=8 {
+            for number in 0..1usize << (2 * length) {
+                let schedule: Vec<u8> = (0..length)
+                    .map(|index| [1, 2, 129, 130][number >> (2 * index) & 3])
+                    .collect();
+                judge.run(self.all_schedules, &sheet, &proposals, &schedule, 18)?;
+            }
+        }
+        Ok(())
+    }
+}
+
+/// "In the host's run the byte at index 2^32 − 1 of a schedule, if there is one, counts as a bad
+/// byte (refusal 8)"; one byte less is obeyed.
+fn huge(judge: &mut Judge, group: Group) -> Going<()> {
+    let sheet = sheet::built(1, 3, 2).expect("the document's sheet");
+    let proposals: Vec<u8> = [500u32, 600].iter().flat_map(|p| p.to_be_bytes()).collect();
+    let steps = Huge::new(1).map_err(|why| {
+        println!("no memory for a schedule of 2^32 bytes: {why}");
+        Stop
+    })?;
+    let whole = steps.bytes();
+    let (number, position) = judge.run_huge(group, &sheet, &proposals, whole, 0)?;
+    let good = (number, position) == (8, u32::MAX);
+    judge.expect(good, group, "a schedule made for 8 at 2^32 - 1", &[])?;
+    let less = &whole[..LENGTH - 1];
+    let (number, _) = judge.run_huge(group, &sheet, &proposals, less, 20)?;
+    judge.expect(number == 0, group, "a schedule made to be obeyed", &[])
+}

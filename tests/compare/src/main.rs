@@ -1,0 +1,162 @@
+//! The comparison: makes inputs from a seed, calls the model of document 01 and the linked
+//! library, and stops with a full report at the first difference.
+//!
+//!     compare [--seconds N] [--seed S] [--only sheets|sessions|runs|lister] [--huge]
+//!             [--lister PATH]
+//!
+//! The fixed cases of each kind are run once and whole; random cases follow, some of each group
+//! in any case, until N seconds have passed since the start. `--huge` adds schedules of 2^32
+//! bytes to the runs (some minutes), `--lister` compares what the lister program at that path
+//! prints. The last line is `N passed, M failed`: groups of cases that were compared without a
+//! difference, and groups with a difference or without a case. With M above 0 the program ends
+//! with 1, after a crash or a wrong command line with another number above 0.
+
+use compare::crash;
+use compare::ffi::{Linked, LINKED};
+use compare::judge::{Going, Judge};
+use compare::kinds;
+use compare::tally::Kind;
+use std::path::PathBuf;
+use std::process::ExitCode;
+use std::time::{SystemTime, UNIX_EPOCH};
+
+const USAGE: &str = "compare [--seconds N] [--seed S] [--only sheets|sessions|runs|lister] \
+                     [--huge] [--lister PATH]";
+
+/// How many slices of random cases are run even if the time is over (some seconds).
+const FEWEST_SLICES: u32 = 300;
+
+/// What the command line asks for.
+struct Wanted {
+    seconds: f64,
+    seed: u64,
+    only: Option<Kind>,
+    huge: bool,
+    lister: Option<PathBuf>,
+}
+
+/// Reads the command line.
+fn wanted() -> Result<Wanted, String> {
+    let now = SystemTime::now().duration_since(UNIX_EPOCH);
+    let mut wanted = Wanted {
+        seconds: 60.0,
+        seed: now.map_or(1, |since| since.as_nanos() as u64),
+        only: None,
+        huge: false,
+        lister: None,
+    };
+    let mut words = std::env::args().skip(1);
+    while let Some(word) = words.next() {
+        if word == "--huge" {
+            wanted.huge = true;
+            continue;
+        }
+        let value = words.next().ok_or(format!("{word} needs a value"))?;
+        match word.as_str() {
+            "--seconds" => wanted.seconds = value.parse().map_err(|_| "bad --seconds")?,
+            "--seed" => wanted.seed = value.parse().map_err(|_| "bad --seed")?,
+            "--only" => {
+                let kind = Kind::ALL.into_iter().find(|kind| kind.name() == value);
+                wanted.only = Some(kind.ok_or("bad --only")?);
+            }
+            "--lister" => wanted.lister = Some(PathBuf::from(value)),
+            _ => return Err(format!("unknown {word}")),
+        }
+    }
+    Ok(wanted)
+}
+
+/// A kind of cases: its fixed part and a slice of its random part.
+trait Cases {
+    fn fixed(&mut self, judge: &mut Judge) -> Going<()>;
+    fn random(&mut self, judge: &mut Judge) -> Going<()>;
+}
+
+macro_rules! cases {
+    ($kind:path) => {
+        impl Cases for $kind {
+            fn fixed(&mut self, judge: &mut Judge) -> Going<()> {
+                <$kind>::fixed(self, judge)
+            }
+            fn random(&mut self, judge: &mut Judge) -> Going<()> {
+                <$kind>::random(self, judge)
+            }
+        }
+    };
+}
+#[cfg(feature = "sheets")]
+cases!(kinds::sheets::Sheets);
+#[cfg(feature = "sessions")]
+cases!(kinds::sessions::Sessions);
+#[cfg(feature = "runs")]
+cases!(kinds::runs::Runs);
+cases!(kinds::lister::Lister);
+
+/// The kinds that are compiled in and asked for.
+fn chosen(wanted: &Wanted, judge: &mut Judge) -> Vec<Box<dyn Cases>> {
+    let asked = |kind| wanted.only.is_none_or(|only| only == kind);
+    let mut all: Vec<Box<dyn Cases>> = Vec::new();
+    #[cfg(feature = "sheets")]
+    if asked(Kind::Sheets) {
+        all.push(Box::new(kinds::sheets::Sheets::new(judge)));
+    }
+    #[cfg(feature = "sessions")]
+    if asked(Kind::Sessions) {
+        all.push(Box::new(kinds::sessions::Sessions::new(judge)));
+    }
+    #[cfg(feature = "runs")]
+    if asked(Kind::Runs) {
+        all.push(Box::new(kinds::runs::Runs::new(judge, wanted.huge)));
+    }
+    if let Some(path) = wanted.lister.clone().filter(|_| asked(Kind::Lister)) {
+        all.push(Box::new(kinds::lister::Lister::new(judge, path)));
+    }
+    all
+}
+
+/// Runs the fixed parts, then slices of the random parts until the time is over.
+fn compare(all: &mut [Box<dyn Cases>], judge: &mut Judge) -> Going<()> {
+    for cases in all.iter_mut() {
+        cases.fixed(judge)?;
+    }
+    let mut slices = 0;
+    while slices < FEWEST_SLICES || !judge.over() {
+        for cases in all.iter_mut() {
+            cases.random(judge)?;
+        }
+        slices += 1;
+    }
+    Ok(())
+}
+
+fn main() -> ExitCode {
+    let wanted = match wanted() {
+        Ok(wanted) => wanted,
+        Err(why) => {
+            eprintln!("{why}\n{USAGE}");
+            return ExitCode::from(2);
+        }
+    };
+    println!("seed {}", wanted.seed);
+    match LINKED {
+        Linked::Archive(path) => println!("library {path}"),
+        Linked::Model => println!("library: none, the model is compared with itself"),
+        Linked::Nothing => {
+            println!("no library: build with SEPALSAIL_LIB or with the feature model-only");
+            println!("0 passed, 1 failed");
+            return ExitCode::from(2);
+        }
+    }
+    crash::install();
+    let mut judge = Judge::new(wanted.seed, wanted.seconds);
+    let mut all = chosen(&wanted, &mut judge);
+    if all.is_empty() {
+        println!("nothing to compare: the feature for this kind is not compiled in");
+        println!("0 passed, 1 failed");
+        return ExitCode::from(2);
+    }
+    // A difference has been reported where it was found; the count follows in either case.
+    let _ = compare(&mut all, &mut judge);
+    let failed = judge.tally.print();
+    ExitCode::from(u8::from(failed > 0))
+}
