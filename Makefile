@@ -13,9 +13,9 @@ run: $(LIB)
 test:
 	@bash .ci/run
 
-# SECONDS=N and SEED=S choose how long and with which inputs the comparison runs
+# FOR=seconds and SEED=number choose how long and with which inputs the comparison runs
 test-long: $(LIB)
-	@bash tests/compare.sh --seconds $${SECONDS_:-600} --seed $${SEED:-1}
+	@bash tests/compare.sh --seconds $${FOR:-600} --seed $${SEED:-1}
 
 bench: $(LIB)
 	@bash tests/bench.sh
