@@ -1,0 +1,69 @@
+-- A record is written party after party: each is 7 bytes, so the next one's place is the end of what is written.
+use Prim.Native.Nat.{ℕ, zero, suc, _+_, _-_, _*_, _≤_, _<_}
+use mathlib.Core.Path.{_≡_, refl, sym, ap, _∙_}
+use mathlib.Core.List.{List, [], _∷_, _++_, map, append-assoc, append-nil}
+use native.Mathlib.Numerals.{add-one}
+use native.Mathlib.Omega.{arith}
+use lib.ListN.{length, getD, take, drop}
+use lib.Seq.{drop-drop, drop-append-add, length-take-le}
+use borrow.Rule.Slice.PartMut.{putMid}
+use Rattle.sheet.specs.Lists.{flat}
+use Rattle.sheet.proofs.Parts.{written-behind}
+use Rattle.sheet.proofs.Written.{length-flat}
+use Rattle.session.specs.Run.{partyBytes, recordLength, recordHead, recordBytes}
+use Rattle.session.specs.declared.state.Party.{Party}
+
+-- one more of the lists that are joined
+flat-taken : {A B : Type 0} (f : A → List B) (d : A) (k : ℕ) (xs : List A) → k < length xs
+    → flat (map f (take (suc k) xs)) ≡ flat (map f (take k xs)) ++ f (getD xs k d)
+flat-taken f d k [] h = absurd (omega arith)
+flat-taken f d zero (x ∷ xs) h = append-nil (f x)
+flat-taken f d (suc k) (x ∷ xs) h =
+    ap (λ z. f x ++ z) (flat-taken f d k xs (omega arith)) ∙ sym (append-assoc (f x) (flat (map f (take k xs))) (f (getD xs k d)))
+
+module _ (n : ℕ) (ps : List Party) where
+  -- the head and the first k parties
+  pub written : ℕ → List ℕ
+  written k = recordHead n ++ flat (map partyBytes (take k ps))
+
+  written-length : (k : ℕ) → k ≤ length ps → length (written k) ≡ 4 + 7 * k
+  unfolding written
+  written-length k h =
+      let bytes = length-flat partyBytes 7 (λ p. refl) (take k ps) in
+      let size = length-take-le k ps h in
+      omega arith
+
+  written-more : (k : ℕ) (d : Party) → k < length ps → written k ++ partyBytes (getD ps k d) ≡ written (k + 1)
+  unfolding written
+  written-more k d h =
+      append-assoc (recordHead n) (flat (map partyBytes (take k ps))) (partyBytes (getD ps k d))
+      ∙ ap (λ (z : List ℕ). recordHead n ++ z) (sym (flat-taken partyBytes d k ps h))
+      ∙ ap (λ (j : ℕ). recordHead n ++ flat (map partyBytes (take j ps))) (sym (add-one k))
+
+  -- a turn: the party's bytes take their place behind those before it
+  pub turn : (k : ℕ) (d : Party) (o out new : List ℕ) → k < length ps → out ≡ written k ++ drop (4 + 7 * k) o
+      → new ≡ partyBytes (getD ps k d) ++ drop 7 (take (length out - (4 + 7 * k)) (drop (4 + 7 * k) out))
+      → putMid (4 + 7 * k) (length out - (4 + 7 * k)) out new ≡ written (k + 1) ++ drop (4 + 7 * (k + 1)) o
+  turn k d o out new h eo en =
+      let party = partyBytes (getD ps k d) in
+      let place : 4 + 7 * k + 7 ≡ 4 + 7 * (k + 1) = omega arith in
+      written-behind (written k) party o out new (4 + 7 * k) 7 (written-length k (omega arith)) eo en
+      ∙ ap (λ (i : ℕ). written k ++ (party ++ drop i o)) place
+      ∙ sym (append-assoc (written k) party (drop (4 + 7 * (k + 1)) o))
+      ∙ ap (λ (z : List ℕ). z ++ drop (4 + 7 * (k + 1)) o) (written-more k d h)
+
+  -- the start: the head, and no party
+  pub opening : (o₀ o : List ℕ) → o ≡ recordHead n ++ drop 4 o₀ → o ≡ written 0 ++ drop 4 o
+  unfolding written
+  opening o₀ o e = e ∙ ap (λ (z : List ℕ). recordHead n ++ z) (sym (ap (drop 4) e))
+
+  -- the end: what was past the record is there still
+  pub closing : (k : ℕ) (o₀ o out : List ℕ) → k ≡ n → o ≡ recordHead n ++ drop 4 o₀ → out ≡ written k ++ drop (4 + 7 * k) o
+      → out ≡ recordBytes n ps ++ drop (recordLength n) o₀
+  unfolding written
+  closing k o₀ o out l e eo =
+      let rest : drop (4 + 7 * k) o ≡ drop (4 + 7 * k) o₀ =
+      ap (drop (4 + 7 * k)) e ∙ drop-append-add (recordHead n) (drop 4 o₀) (7 * k) ∙ drop-drop (7 * k) 4 o₀ in
+      eo
+      ∙ ap (λ (z : List ℕ). written k ++ z) rest
+      ∙ ap (λ (j : ℕ). (recordHead n ++ flat (map partyBytes (take j ps))) ++ drop (4 + 7 * j) o₀) l

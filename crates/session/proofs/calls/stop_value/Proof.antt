@@ -1,0 +1,108 @@
+-- Past the two refusals the party's status is what the definition says, and the party is put into the session.
+use Prim.Native.Nat.{ℕ, _-_, _<_}
+use mathlib.Core.Path.{_≡_, sym, ap, _∙_}
+use mathlib.Core.Bool.{cond}
+use borrow.Author.Needs.{needs}
+use native.Mathlib.Omega.{arith}
+use lib.Dec.{eqb}
+use lib.ListN.{length, set}
+use lib.Seq.{getD-set-same}
+use Rattle.session.specs.Session.{noParty, partyOf}
+use Rattle.session.specs.Step.{stop}
+use Rattle.session.specs.Calls.{told}
+use Rattle.session.specs.declared.state.Party.{Party}
+use Rattle.session.specs.declared.state.Session.{Session}
+use Rattle.session.proofs.Refusals.{Past, not-formed, no-party, past, answered}
+use Rattle.session.proofs.Sizes.{parties-length}
+use Rattle.session.proofs.calls.stop_value.Statement.{statement}
+use Rattle.session.proofs.calls.stop_value.Tie as tie
+
+-- the session with a status put into party i
+module _ (s : Session) (i : ℕ) where
+  abbrev own : Party
+  own = partyOf (s .parties) i
+
+  abbrev put : ℕ → Session
+  put v =
+      record {
+        sheet = s .sheet;
+        proposals = s .proposals;
+        marks = s .marks;
+        published = s .published;
+        parties =
+            set (s .parties) (i - 1)
+            (record {
+              status = v;
+              place = own .place;
+              round = own .round;
+              k = own .k;
+              candidate = own .candidate;
+              steps = own .steps;
+              decision = own .decision;
+            });
+      }
+
+  abbrev status : ℕ
+  status = partyOf (stop s i .parties) i .status
+
+  module _ (v : ℕ) (e : v ≡ cond (eqb (own .status) 2) 2 3) where
+    stops : put v ≡ stop s i
+    unfolding stop
+    stops = ap put e
+
+    tells : i - 1 < length (s .parties) → v ≡ status
+    unfolding stop
+    tells h = e ∙ sym (ap (λ (p : Party). p .status) (getD-set-same (s .parties) (i - 1) _ noParty h))
+
+returns : tie.Need-returns
+returns c = let a = c .before .before .args in not-formed stop status (a .t1) (a .party) (c .before .is-well-formed .ensures) (c .if1 .taken)
+
+returns-2 : tie.Need-returns-2
+returns-2 c =
+    let b = c .before .before .before in
+    let a = b .before .before .args in
+    no-party stop status (a .t1) (a .party) (b .before .is-well-formed .ensures) (b .if1 .left) (c .before .is-party .ensures) (c .if2 .taken)
+
+known : (c : tie.Else2) → Past (c .before .before .before .before .before .args .t1) (c .before .before .before .before .before .args .party)
+known c =
+    let b = c .before .before .before in
+    let a = b .before .before .args in
+    past (a .t1) (a .party) (b .before .is-well-formed .ensures) (b .if1 .left) (c .before .is-party .ensures) (c .if2 .left)
+
+sub-at : tie.Need-sub-at
+sub-at c = known c .least
+
+element-copy-out-p : tie.Need-element-copy-out-p
+element-copy-out-p c = let few = known c .few in omega arith
+
+element-set-from-t : tie.Need-element-set-from-t
+element-set-from-t c = let few = known (c .before .before) .few in omega arith
+
+returns-3 : tie.Need-returns-3
+returns-3 c =
+    let p = known (c .before .before) in
+    let few = p .few in
+    let least = p .least in
+    let b = c .before .before .before .before .before .before .before in
+    let a = b .args in
+    let v = c .status-after in
+    let inside = tells (a .t1) (a .party) (v .result) (v .ensures) (omega (arith, parties-length (a .t1) (b .good .0))) in
+    let r = answered stop status (a .t1) (a .party) p in
+    (stops (a .t1) (a .party) (v .result) (v .ensures) ∙ r .0, ap (told 0) inside ∙ r .1)
+
+pub stop-value-spec : {M : Type 1} → statement M
+stop-value-spec =
+    tie.close
+    (tie.spec
+    (λ c κs. search needs)
+    returns
+    (λ c. search needs)
+    (λ c κs. search needs)
+    returns-2
+    sub-at
+    (λ c. search needs)
+    element-copy-out-p
+    (λ c κs. search needs)
+    (λ c. search needs)
+    element-set-from-t
+    returns-3)

@@ -1,0 +1,43 @@
+-- The copy is filled from the front, one by one.
+use Prim.Native.Nat.{_-_, _≤_}
+use mathlib.Core.Path.{refl}
+use borrow.Author.Needs.{needs}
+use native.Mathlib.Omega.{arith}
+use lib.ListN.{length}
+use Rattle.session.proofs.Copies.{Front, front-first, front-on, front-end}
+use Rattle.session.proofs.opening.proposals_copy.Statement.{statement}
+use Rattle.session.proofs.opening.proposals_copy.Tie as tie
+
+abbrev Inv-loop : tie.InvT-loop
+Inv-loop proposals copy₀ j₀ copy j = (j ≤ length proposals) × Front 16 0 proposals copy j
+
+abbrev μ-loop : tie.MeasureT-loop
+μ-loop proposals copy₀ j₀ copy j = length proposals - j
+
+loop-holds : tie.Need-loop-holds Inv-loop μ-loop
+loop-holds c = (search needs, front-first 16 0 (c .args .proposals .now))
+
+loop-again : tie.Need-loop-again Inv-loop μ-loop
+loop-again c =
+    let b = c .before .before in
+    let a = b .before in
+    (search needs, front-on 16 0 (a .args .proposals .now) (b .loop .copy) (b .loop .j) _ _ 0 (omega arith) (omega arith) refl refl (b .loop .inv .1))
+
+returns : tie.Need-returns Inv-loop μ-loop
+returns c = front-end 16 0 (c .before .before .args .proposals .now) (c .before .loop .copy) (c .before .loop .j) (omega arith) (c .before .loop .inv .1)
+
+pub proposals-copy-spec : {M : Type 1} → statement M
+proposals-copy-spec =
+    tie.close
+    (tie.spec
+    Inv-loop
+    μ-loop
+    loop-holds
+    (λ c. search needs)
+    (λ c. search needs)
+    (λ c. search needs)
+    (λ c. search needs)
+    (λ c. search needs)
+    (λ c. search needs)
+    loop-again
+    returns)

@@ -1,0 +1,159 @@
+-- Each refusal is that of the first test that fails, and then the output is untouched; past the tests the schedule is obeyed and the record written.
+use Prim.Native.Nat.{ℕ, _-_, _≤_}
+use mathlib.Core.Path.{_≡_, refl, sym, ap, _∙_}
+use mathlib.Core.List.{List, _++_}
+use mathlib.Core.Logic.{_≢_}
+use native.Mathlib.Omega.{arith}
+use borrow.Author.Needs.{needs}
+use borrow.Author.Tests.{not-true, not-false}
+use lib.Dec.{T}
+use lib.ListN.{getD, drop}
+use Rattle.sheet.specs.Check.{answer, done, checkAnswer}
+use Rattle.sheet.specs.Lists.{all, firstBad}
+use Rattle.sheet.specs.Answers.{answerOf}
+use Rattle.sheet.specs.Words.{Rules6}
+use Rattle.sheet.specs.declared.answer.Refusal.the-variants.{Proposals, Schedule, Output}
+use Rattle.sheet.specs.declared.answer.Verdict.the-variants.{Refused}
+use Rattle.sheet.proofs.Folds.{held, failed}
+use Rattle.sheet.proofs.FirstBad.{first-none, none-first}
+use Rattle.sheet.proofs.Says.{check-says}
+use Rattle.session.specs.Calls.{openAnswer}
+use Rattle.session.specs.Run.{byteOk, recordBytes, recordLength}
+use Rattle.session.specs.declared.state.Party.{Party}
+use Rattle.session.proofs.Verdicts.{refused-number}
+use Rattle.session.proofs.Openings.{not-accepted, miscounted, opens}
+use Rattle.session.proofs.RunAnswers.{run-unopened, run-unscheduled, run-unfit, run-done, run-refused, out-written}
+use Rattle.session.proofs.runs.run.Statement.{statement}
+use Rattle.session.proofs.runs.run.Tie as tie
+
+-- ---- what the tests that are passed tell
+
+-- the function's entry, from past the check
+abbrev entry : tie.After-shared-slice-known4 → tie.Start
+entry c = c .before .before .before .before .before .before .before .before
+
+checked : (c : tie.After-shared-slice-known4) → checkAnswer (entry c .args .sheet .now) ≡ done
+checked c = sym (c .before .before .before .check .ensures) ∙ ap answerOf (c .before .enum-told2 .given .1)
+
+accepted : (c : tie.After-shared-slice-known4) → Rules6 (entry c .args .sheet .now)
+accepted c = check-says (entry c .args .sheet .now) .accepted .0 (checked c)
+
+few : (c : tie.After-shared-slice-known4) → getD (entry c .args .sheet .now) 5 0 ≤ 16
+few c = accepted c .before .before .before .header .partiesMost
+
+opening : (c : tie.Else1) → done ≡ openAnswer (entry (c .before) .args .sheet .now) (entry (c .before) .args .proposals .now)
+opening c = opens (entry (c .before) .args .sheet .now) (entry (c .before) .args .proposals .now) (checked (c .before)) (c .if1 .left) .1
+
+-- the first bad byte, as the definition has it
+abbrev first : tie.After-shared-slice-known4 → ℕ
+first c = firstBad (byteOk (getD (entry c .args .sheet .now) 5 0)) 1 (entry c .args .schedule .now)
+
+some-bad : (c : tie.Then2) → first (c .before .before .before) ≢ 0
+some-bad c e =
+    let a = entry (c .before .before .before) .args in
+    failed _ (sym (c .before .schedule-ok .ensures) ∙ not-true _ (c .if2 .taken))
+    (none-first (byteOk (getD (a .sheet .now) 5 0)) 1 (a .schedule .now) (omega arith) e)
+
+all-good : (c : tie.Else2)
+    → T (all (byteOk (getD (entry (c .before .before .before) .args .sheet .now) 5 0)) (entry (c .before .before .before) .args .schedule .now))
+all-good c = held _ (sym (c .before .schedule-ok .ensures) ∙ not-false _ (c .if2 .left))
+
+none-bad : (c : tie.Else2) → first (c .before .before .before) ≡ 0
+none-bad c = first-none _ 1 (entry (c .before .before .before) .args .schedule .now) (all-good c)
+
+-- ---- the needs
+
+returns : tie.Need-returns
+returns c =
+    let a = c .before .before .before .before .before .before .before .args in
+    let v = c .before .before .check .result in
+    let e = c .before .before .check .ensures in
+    let r = c .enum-told .given .0 .0 in
+    let o = c .enum-told .given .1 in
+    let unopened = e ∙ not-accepted (a .sheet .now) (a .proposals .now) (refused-number (checkAnswer (a .sheet .now)) v r e o) .1 in
+    run-refused (a .sheet .now) (a .proposals .now) (a .schedule .now) (a .out .now) v r o
+    (run-unopened (a .sheet .now) (a .proposals .now) (a .schedule .now) (a .out .now) v r o unopened)
+
+shared-slice-read-n : tie.Need-shared-slice-read-n
+shared-slice-read-n c = let whole = accepted c .before .before .before .before .before .whole in omega arith
+
+cast-if1 : tie.Need-cast-if1
+cast-if1 c = let most = few c in omega arith
+
+returns-2 : tie.Need-returns-2
+returns-2 c =
+    let a = entry (c .before) .args in
+    let unopened = miscounted (a .sheet .now) (a .proposals .now) (checked (c .before)) (c .if1 .taken) .1 in
+    run-refused (a .sheet .now) (a .proposals .now) (a .schedule .now) (a .out .now) (Refused Proposals) Proposals refl
+    (run-unopened (a .sheet .now) (a .proposals .now) (a .schedule .now) (a .out .now) (Refused Proposals) Proposals refl unopened)
+
+schedule-ok-requires : tie.Need-schedule-ok-requires
+schedule-ok-requires c κs = few (c .before)
+
+first-bad-byte-requires : tie.Need-first-bad-byte-requires
+first-bad-byte-requires c κs = few (c .before .before .before)
+
+sub-t16 : tie.Need-sub-t16
+sub-t16 c = let some = some-bad (c .before) in let e = c .first-bad-byte .ensures in omega arith
+
+returns-3 : tie.Need-returns-3
+returns-3 c =
+    let a = entry (c .before .before .before .before) .args in
+    let r = Schedule (c .first-bad-byte .result - 1) in
+    let o = opening (c .before .before .before) in
+    let e =
+    ap (λ (k : ℕ). answer 8 (k - 1)) (c .first-bad-byte .ensures)
+    ∙ run-unscheduled (a .sheet .now) (a .proposals .now) (a .schedule .now) (a .out .now) o (some-bad (c .before)) in
+    run-refused (a .sheet .now) (a .proposals .now) (a .schedule .now) (a .out .now) (Refused r) r refl e
+
+returns-4 : tie.Need-returns-4
+returns-4 c =
+    let a = entry (c .before .before .before .before) .args in
+    let e =
+    run-unfit (a .sheet .now) (a .proposals .now) (a .schedule .now) (a .out .now) (opening (c .before .before .before)) (none-bad (c .before))
+    (omega arith) in
+    run-refused (a .sheet .now) (a .proposals .now) (a .schedule .now) (a .out .now) (Refused Output) Output refl e
+
+obey-requires : tie.Need-obey-requires
+obey-requires c κs = (accepted (c .before .before .before .before), refl, c .before .before .before .if1 .left, all-good (c .before))
+
+put-record-requires : tie.Need-put-record-requires
+put-record-requires c κs = (few (c .before .before .before .before .before .before), omega arith)
+
+returns-5 : tie.Need-returns-5
+returns-5 c =
+    let past = c .before .before .before .before .before in
+    let a = entry (past .before .before .before .before) .args in
+    let n = getD (a .sheet .now) 5 0 in
+    let e =
+    run-done (a .sheet .now) (a .proposals .now) (a .schedule .now) (a .out .now) (opening (past .before .before .before)) (none-bad (past .before))
+    (omega arith) in (
+      e,
+      c .before .before .put-record .ensures
+          ∙ ap (λ (ps : List Party). recordBytes n ps ++ drop (recordLength n) (a .out .now)) (c .before .before .before .before .obey .ensures)
+          ∙ out-written (a .sheet .now) (a .proposals .now) (a .schedule .now) (a .out .now) e,
+    )
+
+pub run-spec : {M : Type 1} → statement M
+run-spec =
+    tie.close
+    (tie.spec
+    (λ c κs. search needs)
+    (λ c. search needs)
+    returns
+    (λ c. search needs)
+    shared-slice-read-n
+    cast-if1
+    returns-2
+    schedule-ok-requires
+    first-bad-byte-requires
+    sub-t16
+    returns-3
+    (λ c. search needs)
+    (λ c. search needs)
+    (λ c. search needs)
+    returns-4
+    obey-requires
+    put-record-requires
+    (λ c. search needs)
+    returns-5)

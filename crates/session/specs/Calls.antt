@@ -1,0 +1,77 @@
+-- The calls: their refusals in their order, what they answer, and the session afterwards.
+use Prim.Native.Nat.{ℕ, suc}
+use mathlib.Core.List.{List, [], _∷_}
+use mathlib.Core.Bool.{Bool, not, _&&_, cond}
+use lib.ListN.{length, getD}
+use lib.Dec.{eqb}
+use Rattle.sheet.specs.Lists.{from, all}
+use Rattle.sheet.specs.Check.{Answer, answer, done, within, checkAnswer}
+use Rattle.sheet.specs.Answers.{numberOf, positionOf}
+use Rattle.session.specs.Session.{freshSession, layout, partyOf}
+use Rattle.session.specs.Step.{isLive, step, placeActed, stop}
+use Rattle.session.specs.WellFormed.{wellFormed}
+use Rattle.session.specs.declared.state.Session.{Session}
+use Rattle.session.specs.declared.state.Reply.{Reply}
+use Rattle.session.specs.declared.state.Reply.the-variants.{Gave, Refused}
+
+-- ---- what a call tells: a number and a position, and a value (place, status, live number), which is 0 in a refused answer
+pub record Told : Type 0 where
+  pub number : ℕ
+  pub value : ℕ
+  pub position : ℕ
+
+abbrev pub told : ℕ → ℕ → Told
+told n v = record { number = n; value = v; position = 0 }
+
+-- document 01's numbers for each case of a reply
+abbrev pub toldOf : Reply → Told
+toldOf (Gave v) = told 0 v
+toldOf (Refused r) = record { number = numberOf r; value = 0; position = positionOf r }
+
+-- ---- open: sheet, 7
+
+abbrev pub openAnswer : List ℕ → List ℕ → Answer
+openAnswer sheet proposals =
+    cond (eqb (checkAnswer sheet .number) 0) (cond (eqb (length proposals) (getD sheet 5 0)) done (answer 7 0)) (checkAnswer sheet)
+
+-- a refused open gives a session of zeros
+abbrev pub opened : List ℕ → List ℕ → Session
+opened sheet proposals =
+    cond (eqb (openAnswer sheet proposals .number) 0) (freshSession sheet proposals (getD sheet 5 0)) (freshSession [] [] 0)
+
+-- ---- step and stop: 9, 10
+
+-- 9, then 10, or what is asked
+abbrev pub unlessRefused : Session → ℕ → ℕ → Told
+unlessRefused s i value = cond (wellFormed s) (cond (within 1 (layout s .parties) i) (told 0 value) (told 10 0)) (told 9 0)
+
+-- a refusal changes nothing
+abbrev pub unlessKept : Session → ℕ → Session → Session
+unlessKept s i after = cond (wellFormed s && within 1 (layout s .parties) i) after s
+
+abbrev pub stepTold : Session → ℕ → Told
+stepTold s i = unlessRefused s i (placeActed s i)
+
+abbrev pub stepped : Session → ℕ → Session
+stepped s i = unlessKept s i (step s i)
+
+-- the status afterwards
+abbrev pub stopTold : Session → ℕ → Told
+stopTold s i = unlessRefused s i (partyOf (stop s i .parties) i .status)
+
+abbrev pub stopped : Session → ℕ → Session
+stopped s i = unlessKept s i (stop s i)
+
+-- ---- live: 9
+
+-- how many of the numbers a test holds of
+abbrev pub countOf : (ℕ → Bool) → List ℕ → ℕ
+countOf f [] = 0
+countOf f (x ∷ xs) = let r = countOf f xs in cond (f x) (suc r) r
+
+-- the number of parties with status 0 or 1
+abbrev pub liveNumber : Session → ℕ
+liveNumber s = countOf (λ i. isLive (partyOf (s .parties) i)) (from 1 (layout s .parties))
+
+abbrev pub liveTold : Session → Told
+liveTold s = cond (wellFormed s) (told 0 (liveNumber s)) (told 9 0)

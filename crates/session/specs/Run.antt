@@ -1,0 +1,66 @@
+-- The run: what a schedule does from a fresh session, the record, and the call's answer.
+use Prim.Native.Nat.{ℕ, _+_, _-_, _*_}
+use mathlib.Core.List.{List, [], _∷_, _++_, map}
+use mathlib.Core.Bool.{Bool, _||_, cond}
+use lib.ListN.{length, getD, take, drop}
+use lib.Dec.{ltb, eqb}
+use Rattle.sheet.specs.Lists.{flat, firstBad}
+use Rattle.sheet.specs.Bytes.{bytesOf}
+use Rattle.sheet.specs.Check.{Answer, answer, done, within}
+use Rattle.session.specs.Session.{freshSession, layout}
+use Rattle.session.specs.Step.{step, stop}
+use Rattle.session.specs.Calls.{openAnswer}
+use Rattle.session.specs.declared.state.Party.{Party}
+use Rattle.session.specs.declared.state.Session.{Session}
+
+-- ---- the schedule
+
+-- byte i (1 to N) is a step of party i, byte 128 + i its stop
+abbrev pub byteOk : ℕ → ℕ → Bool
+byteOk n b = within 1 n b || within 129 (128 + n) b
+
+abbrev pub entry : Session → ℕ → Session
+entry s b = cond (ltb b 128) (step s b) (stop s (b - 128))
+
+-- it obeys each byte in turn
+abbrev pub obeyed : Session → List ℕ → Session
+obeyed s [] = s
+obeyed s (b ∷ bs) = obeyed (entry s b) bs
+
+-- ---- the record
+
+-- each party in 7 bytes: status (1), own steps (2), decision (4, zero unless decided)
+abbrev pub partyBytes : Party → List ℕ
+partyBytes p = p .status ∷ (bytesOf 2 (p .steps) ++ bytesOf 4 (p .decision))
+
+abbrev pub recordLength : ℕ → ℕ
+recordLength n = 4 + 7 * n
+
+-- length (2), version 1 (1), N (1)
+abbrev pub recordHead : ℕ → List ℕ
+recordHead n = bytesOf 2 (recordLength n) ++ (1 ∷ n ∷ [])
+
+-- then the parties
+abbrev pub recordBytes : ℕ → List Party → List ℕ
+recordBytes n parties = recordHead n ++ flat (map partyBytes (take n parties))
+
+-- ---- the call: sheet, 7, 8 (index of the first bad byte, counted from 0), 11
+
+abbrev pub runAnswer : List ℕ → List ℕ → List ℕ → ℕ → Answer
+runAnswer sheet proposals schedule len =
+    let n = getD sheet 5 0 in
+    let bad = firstBad (byteOk n) 1 schedule in
+    cond (eqb (openAnswer sheet proposals .number) 0)
+    (cond (eqb bad 0) (cond (ltb len (recordLength n)) (answer 11 0) done) (answer 8 (bad - 1)))
+    (openAnswer sheet proposals)
+
+-- the session that the schedule leads to
+abbrev pub ran : List ℕ → List ℕ → List ℕ → Session
+ran sheet proposals schedule = obeyed (freshSession sheet proposals (getD sheet 5 0)) schedule
+
+-- the output afterwards: the record, and past it what was there; after a refusal all that was there
+abbrev pub runOut : List ℕ → List ℕ → List ℕ → List ℕ → List ℕ
+runOut sheet proposals schedule out =
+    let n = getD sheet 5 0 in
+    cond (eqb (runAnswer sheet proposals schedule (length out) .number) 0)
+    (recordBytes n (ran sheet proposals schedule .parties) ++ drop (recordLength n) out) out

@@ -1,0 +1,169 @@
+// The run of a whole schedule, and its record.
+ghost use mathlib.Core.Path.{_≡_};
+ghost use mathlib.Core.List.{_++_};
+ghost use Prim.Native.Nat.{_≤_};
+ghost use lib.ListN.{length, getD, drop};
+ghost use lib.Dec.{T};
+ghost use Rattle.sheet.specs.Lists.{all, firstBad};
+ghost use Rattle.sheet.specs.Words.{Rules6};
+ghost use Rattle.sheet.specs.Answers.{answerOf};
+ghost use Rattle.session.specs.Step.{stoppedParty};
+ghost use Rattle.session.specs.Run.{byteOk, ran, partyBytes, recordLength, recordHead, recordBytes, runAnswer, runOut};
+use crate::act;
+use crate::calls;
+use crate::opening;
+use crate::state::Party;
+use sheet::Refusal;
+use sheet::Verdict;
+
+// Whether a schedule byte is a step or a stop of one of n parties.
+fn byte_ok(n: u8, b: u8) -> bool
+    requires { ⌜ n ≤ 16 ⌝ }
+    ensures { λ r. ⌜ r ≡ byteOk n b ⌝ }
+{
+    match b {
+        1..=127 => b <= n,
+        129..=255 => b <= 128 + n,
+        _ => false,
+    }
+}
+
+// Whether every byte is good: one pass with no early exit.
+fn schedule_ok(schedule: &[u8], n: u8) -> bool
+    requires { ⌜ n ≤ 16 ⌝ }
+    ensures { λ r. ⌜ r ≡ all (byteOk n) (now (schedule .entry)) ⌝ }
+{
+    let mut ok = true;
+    let mut j = 0;
+    while j < schedule.len() {
+        if !byte_ok(n, schedule[j]) {
+            ok = false;
+        }
+        j += 1;
+    }
+    ok
+}
+
+// The first bad byte, counted from 1, or 0.
+fn first_bad_byte(schedule: &[u8], n: u8) -> usize
+    requires { ⌜ n ≤ 16 ⌝ }
+    ensures { λ r. ⌜ r ≡ firstBad (byteOk n) 1 (now (schedule .entry)) ⌝ }
+{
+    let mut j = 0;
+    while j < schedule.len() {
+        if !byte_ok(n, schedule[j]) {
+            return j + 1;
+        }
+        j += 1;
+    }
+    0
+}
+
+// A stop: a party that has decided stays so.
+fn stop_party(p: Party) -> Party
+    ensures { λ r. ⌜ r ≡ stoppedParty p ⌝ }
+{
+    Party {
+        status: calls::status_after(p.status),
+        place: p.place,
+        round: p.round,
+        k: p.k,
+        candidate: p.candidate,
+        steps: p.steps,
+        decision: p.decision,
+    }
+}
+
+// Obeys a schedule of good bytes on an accepted sheet, from a fresh session: the parties at the end.
+fn obey(sheet: &[u8], proposals: &[u32], schedule: &[u8], n: u8) -> [Party; 16]
+    requires { ⌜ (Rules6 (now sheet)) × (n ≡ getD (now sheet) 5 0) × (length (now proposals) ≡ n) × (T (all (byteOk n) (now schedule))) ⌝ }
+    ensures { λ r. ⌜ r ≡ ran (now (sheet .entry)) (now (proposals .entry)) (now (schedule .entry)) .parties ⌝ }
+{
+    let own = opening::proposals_copy(proposals);
+    let mut parties = opening::fresh_parties(n);
+    let mut marks = [0u8; 1024];
+    let mut published = [0u8; 256];
+    let mut j = 0;
+    while j < schedule.len() {
+        let b = schedule[j];
+        let i = b % 128;
+        let at = i as usize - 1;
+        let p = parties[at];
+        if p.status < 2 {
+            if b < 128 {
+                parties[at] = act::act(sheet, &own, &mut marks, &mut published, p, i, n);
+            } else {
+                parties[at] = stop_party(p);
+            }
+        }
+        j += 1;
+    }
+    parties
+}
+
+// The record's first four bytes.
+fn put_head(o: &mut [u8], n: u8)
+    requires { ⌜ (n ≤ 16) × (4 ≤ length (now o)) ⌝ }
+    ensures { λ _. ⌜ now (o .exit) ≡ recordHead n ++ drop 4 (now (o .entry)) ⌝ }
+{
+    let len = 4 + 7 * (n as u16);
+    o[0] = (len / 256 % 256) as u8;
+    o[1] = (len % 256) as u8;
+    o[2] = 1;
+    o[3] = n;
+}
+
+// A party's seven bytes, at the start of what is lent.
+fn put_party(o: &mut [u8], p: Party)
+    requires { ⌜ 7 ≤ length (now o) ⌝ }
+    ensures { λ _. ⌜ now (o .exit) ≡ partyBytes p ++ drop 7 (now (o .entry)) ⌝ }
+{
+    let steps = p.steps;
+    let decision = p.decision;
+    o[0] = p.status;
+    o[1] = (steps / 256 % 256) as u8;
+    o[2] = (steps % 256) as u8;
+    o[3] = (decision / 16777216 % 256) as u8;
+    o[4] = (decision / 65536 % 256) as u8;
+    o[5] = (decision / 256 % 256) as u8;
+    o[6] = (decision % 256) as u8;
+}
+
+// The record of the first n parties; the bytes past it stay.
+fn put_record(out: &mut [u8], n: u8, parties: [Party; 16])
+    requires { ⌜ (n ≤ 16) × (recordLength n ≤ length (now out)) ⌝ }
+    ensures { λ _. ⌜ now (out .exit) ≡ recordBytes n parties ++ drop (recordLength n) (now (out .entry)) ⌝ }
+{
+    put_head(out, n);
+    let mut p: usize = 0;
+    while p < n as usize {
+        let at = 4 + 7 * p;
+        let party = parties[p];
+        put_party(&mut out[at..], party);
+        p += 1;
+    }
+}
+
+// Opens a session, obeys each byte in turn and writes the record; bytes past it keep their content, and a refusal changes nothing.
+pub fn run(sheet: &[u8], proposals: &[u32], schedule: &[u8], out: &mut [u8]) -> Verdict
+    ensures { λ r. ⌜ answerOf r ≡ runAnswer (now (sheet .entry)) (now (proposals .entry)) (now (schedule .entry)) (length (now (out .entry))) ⌝ }
+    ensures { λ _. ⌜ now (out .exit) ≡ runOut (now (sheet .entry)) (now (proposals .entry)) (now (schedule .entry)) (now (out .entry)) ⌝ }
+{
+    let verdict = sheet::check(sheet);
+    if let Verdict::Refused(_) = verdict {
+        return verdict;
+    }
+    let n = sheet[5];
+    if proposals.len() != n as usize {
+        return Verdict::Refused(Refusal::Proposals);
+    }
+    if !schedule_ok(schedule, n) {
+        return Verdict::Refused(Refusal::Schedule(first_bad_byte(schedule, n) - 1));
+    }
+    if out.len() < 4 + 7 * (n as usize) {
+        return Verdict::Refused(Refusal::Output);
+    }
+    let parties = obey(sheet, proposals, schedule, n);
+    put_record(out, n, parties);
+    Verdict::Done
+}
