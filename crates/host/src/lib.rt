@@ -1,4 +1,6 @@
 // The calls for a host in C: numbers and byte slices, and one word as the answer.
+mod layout;
+
 ghost use mathlib.Core.Path.{_≡_};
 ghost use lib.ListN.{length};
 ghost use Rattle.sheet.specs.Check.{checkAnswer};

@@ -12,7 +12,7 @@ use lib.Seq.{getD-set-same, getD-set-other, set-set}
 use Rattle.sheet.specs.Rows.{Layout, slot}
 use Rattle.sheet.specs.Rules.{writes}
 use Rattle.session.specs.Session.{layout, noParty, partyOf, cell}
-use Rattle.session.specs.Step.{Place, announce, publish, write, readTop, readOwn, readPair, fetch, decide, done, placeOf, counted, partyAfter, won, nextK, lowersWin, goes, marksAfter, publishedAfter, isLive, acted, step, placeActed, stoppedParty, stop}
+use Rattle.session.specs.Step.{Place, announce, publish, write, readTop, readOwn, readPair, fetch, decide, done, placeOf, counted, partyAfter, won, nextK, lowersWin, goes, decided, marksAfter, publishedAfter, isLive, acted, step, placeActed, stoppedParty, stop}
 use Rattle.session.specs.declared.state.Party.{Party}
 use Rattle.session.specs.declared.state.Session.{Session}
 use Rattle.session.proofs.Stamps.{getD-passed}
@@ -105,37 +105,41 @@ module _ (s : Session) (i : ℕ) where
       at (suc (suc (suc (suc (suc (suc (suc zero))))))) h = refl
       at (suc (suc (suc (suc (suc (suc (suc (suc m)))))))) h = refl
 
--- ---- own steps
+-- ---- own steps and status
 
--- no rule of a place changes the own steps: only `counted` does
-same-if : (b : Bool) (x y : Party) (n : ℕ) → x .steps ≡ n → y .steps ≡ n → cond b x y .steps ≡ n
-same-if true x y n e f = e
-same-if false x y n e f = f
+-- what holds of both ways holds of the way that is taken
+either-way : (P : Party → Type 0) (b : Bool) (x y : Party) → P x → P y → P (cond b x y)
+either-way P true x y u v = u
+either-way P false x y u v = v
 
-module _ (l : Layout) (proposals marks published : List ℕ) (i : ℕ) (p : Party) where
-  won-steps : (r c : ℕ) → won (l .parties) p r c .steps ≡ p .steps
+-- what holds of a party that goes anywhere, of one that decides and of p itself holds of p after its act
+module _ (l : Layout) (proposals marks published : List ℕ) (i : ℕ) (p : Party) (P : Party → Type 0)
+    (going : (place r k c : ℕ) → P (goes p place r k c)) (deciding : P (decided proposals p)) (staying : P p) where
+  won-any : (r c : ℕ) → P (won (l .parties) p r c)
   unfolding won
-  won-steps r c = same-if (ltb r (l .parties)) _ _ (p .steps) refl refl
+  won-any r c = either-way P (ltb r (l .parties)) _ _ (going 1 (r + 1) 0 c) (going 7 0 0 c)
 
-  next-steps : nextK (l .parties) p .steps ≡ p .steps
+  next-any : P (nextK (l .parties) p)
   unfolding nextK
-  next-steps = same-if (ltb (p .k + 1) (p .round)) _ _ (p .steps) refl (won-steps (p .round) (p .round))
+  next-any = either-way P (ltb (p .k + 1) (p .round)) _ _ (going 4 (p .round) (p .k + 1) (p .candidate)) (won-any (p .round) (p .round))
 
-  lower-steps : lowersWin (l .parties) i p .steps ≡ p .steps
+  lower-any : P (lowersWin (l .parties) i p)
   unfolding lowersWin
-  lower-steps = same-if (ltb i (p .round)) _ _ (p .steps) (won-steps (p .round) (p .candidate)) refl
+  lower-any = either-way P (ltb i (p .round)) _ _ (won-any (p .round) (p .candidate)) (going 6 (p .round) (p .k) (p .candidate))
 
-  after-steps : (q : Place) → partyAfter l proposals marks published i p q .steps ≡ p .steps
+  pub after-any : (q : Place) → P (partyAfter l proposals marks published i p q)
   unfolding partyAfter
-  after-steps announce = same-if (eqb (l .parties) 1) _ _ (p .steps) refl (same-if (eqb i 1) _ _ (p .steps) refl refl)
-  after-steps publish = refl
-  after-steps write = same-if (eqb i (p .round)) _ _ (p .steps) refl refl
-  after-steps readTop = same-if (eqb (getD marks (l .row (slot (p .round) (p .round)) .own) 0) 0) _ _ (p .steps) lower-steps refl
-  after-steps readOwn = same-if (eqb (getD marks (l .row (slot (p .round) (p .k)) .own) 0) 0) _ _ (p .steps) next-steps refl
-  after-steps readPair = same-if (eqb (getD marks (l .row (slot (p .round) (p .k)) .pair) 0) 2) _ _ (p .steps) lower-steps next-steps
-  after-steps fetch = won-steps (p .round) (getD published (cell (p .round) (p .k)) 0)
-  after-steps decide = refl
-  after-steps done = refl
+  after-any announce =
+      either-way P (eqb (l .parties) 1) _ _ (going 7 0 0 (p .candidate))
+      (either-way P (eqb i 1) _ _ (going 1 2 0 (p .candidate)) (going 2 i 0 (p .candidate)))
+  after-any publish = going 2 (p .round) 0 (p .candidate)
+  after-any write = either-way P (eqb i (p .round)) _ _ (going 4 (p .round) 1 (p .candidate)) (going 3 (p .round) 0 (p .candidate))
+  after-any readTop = either-way P (eqb (getD marks (l .row (slot (p .round) (p .round)) .own) 0) 0) _ _ lower-any (going 4 (p .round) 1 (p .candidate))
+  after-any readOwn = either-way P (eqb (getD marks (l .row (slot (p .round) (p .k)) .own) 0) 0) _ _ next-any (going 5 (p .round) (p .k) (p .candidate))
+  after-any readPair = either-way P (eqb (getD marks (l .row (slot (p .round) (p .k)) .pair) 0) 2) _ _ lower-any next-any
+  after-any fetch = won-any (p .round) (getD published (cell (p .round) (p .k)) 0)
+  after-any decide = deciding
+  after-any done = staying
 
 module _ (s : Session) (i : ℕ) (fits : i - 1 < length (s .parties)) where
   -- own steps grow by one where the party is live, and not else
@@ -145,7 +149,18 @@ module _ (s : Session) (i : ℕ) (fits : i - 1 < length (s .parties)) where
       let p = partyOf (s .parties) i in
       rw (lt-ltb (p .status) 2 h)
       (ap (λ (q : Party). q .steps) (getD-set-same (s .parties) (i - 1) (counted (partyAfter (layout s) (s .proposals) (s .marks) (s .published) i p (placeOf (p .place)))) noParty fits)
-      ∙ ap (λ (n : ℕ). n + 1) (after-steps (layout s) (s .proposals) (s .marks) (s .published) i p (placeOf (p .place))))
+      ∙ ap (λ (n : ℕ). n + 1)
+      (after-any (layout s) (s .proposals) (s .marks) (s .published) i p (λ q. q .steps ≡ p .steps) (λ _ _ _ _. refl) refl refl (placeOf (p .place))))
+
+  -- and a live party is running or has decided afterwards
+  pub step-status : partyOf (s .parties) i .status < 2 → partyOf (step s i .parties) i .status ≤ 2
+  unfolding step
+  step-status h =
+      let p = partyOf (s .parties) i in
+      let after = partyAfter (layout s) (s .proposals) (s .marks) (s .published) i p (placeOf (p .place)) in
+      rw (lt-ltb (p .status) 2 h)
+      (subst (λ (q : Party). q .status ≤ 2) (sym (getD-set-same (s .parties) (i - 1) (counted after) noParty fits))
+      (after-any (layout s) (s .proposals) (s .marks) (s .published) i p (λ q. q .status ≤ 2) (λ _ _ _ _. omega arith) (omega arith) (omega arith) (placeOf (p .place))))
 
   -- a party that has decided or stopped changes nothing, and the answer is 8
   pub step-over : 2 ≤ partyOf (s .parties) i .status → (step s i ≡ s) × (placeActed s i ≡ 8)

@@ -44,4 +44,5 @@ pub mod Records
 pub mod RunAnswers
 pub mod RunCalls
 pub mod Tally
+pub mod Enough
 pub mod Worked

@@ -27,7 +27,7 @@ use Rattle.session.proofs.Reached.{Reached, here, reached-kept, reached
 use Rattle.session.proofs.Obeying.{Good, byte-good, entry-reached, step-live}
 
 -- a party's own steps
-abbrev stepsOf : Session → ℕ → ℕ
+abbrev pub stepsOf : Session → ℕ → ℕ
 stepsOf s i = partyOf (s .parties) i .steps
 
 module _ (sheet proposals : List ℕ) (rules : Rules6 sheet) (count : length proposals ≡ getD sheet 5 0)
@@ -99,7 +99,7 @@ module _ (sheet proposals : List ℕ) (rules : Rules6 sheet) (count : length pro
           inr (acts-other b (λ e. omega arith), ap (λ (t : Session). stepsOf t i) (g .stops l s) ∙ by-stop (ℕ-discrete (b % 128) i)))
           (lt-or-le b 128)
 
-  tallied : {s : Session} → Reached sheet proposals s → (bs : List ℕ) → T (all (byteOk n) bs) → stepsOf (obeyed s bs) i ≡ stepsOf s i + acts s bs i
+  pub tallied : {s : Session} → Reached sheet proposals s → (bs : List ℕ) → T (all (byteOk n) bs) → stepsOf (obeyed s bs) i ≡ stepsOf s i + acts s bs i
   unfolding Adds
   tallied {s} R [] t = sym (add-zero (stepsOf s i))
   tallied {s} R (b ∷ bs) t =

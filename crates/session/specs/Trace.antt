@@ -1,5 +1,5 @@
 -- A schedule seen from outside: the calls that it stands for, what they tell, and how often a party acts.
-use Prim.Native.Nat.{ℕ, suc, _-_}
+use Prim.Native.Nat.{ℕ, suc, _+_, _-_}
 use mathlib.Core.List.{List, [], _∷_}
 use mathlib.Core.Bool.{Bool, not, _&&_, cond}
 use lib.Dec.{ltb, eqb}
@@ -37,3 +37,8 @@ actsAt s b i = eqb b i && not (eqb (placeActed s i) 8)
 abbrev pub acts : Session → List ℕ → ℕ → ℕ
 acts s [] i = 0
 acts s (b ∷ bs) i = let r = acts (entry s b) bs i in cond (actsAt s b i) (suc r) r
+
+-- how many step entries of party i stand before any stop of its own
+abbrev pub stepsBefore : ℕ → List ℕ → ℕ
+stepsBefore i [] = 0
+stepsBefore i (b ∷ bs) = let r = stepsBefore i bs in cond (eqb b (128 + i)) 0 (cond (eqb b i) (suc r) r)

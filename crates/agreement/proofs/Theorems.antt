@@ -1,0 +1,70 @@
+-- Demand 3 is what is proved of reached sessions, brought to schedules, to calls and to built sheets.
+use Prim.Native.Nat.{ℕ, suc, _+_, _-_, _≤_, _<_}
+use mathlib.Core.Path.{_≡_, refl, sym, ap, _∙_, subst}
+use mathlib.Core.Logic.{_⊎_, inl, inr, ⊎-elim}
+use mathlib.Core.List.{List, [], _∷_}
+use native.Mathlib.Omega.{arith}
+use lib.ListN.{length, getD}
+use lib.Dec.{T, eqb}
+use Rattle.sheet.specs.Lists.{all}
+use Rattle.sheet.specs.Words.{Rules6}
+use Rattle.sheet.specs.Build.{builtSheet}
+use Rattle.sheet.specs.Given.{Given}
+use Rattle.sheet.proofs.Theorems.{answers, built-says}
+use Rattle.session.specs.Session.{freshSession, partyOf}
+use Rattle.session.specs.Calls.{opened}
+use Rattle.session.specs.Run.{byteOk, ran}
+use Rattle.session.specs.Trace.{called}
+use Rattle.session.specs.Reach.{Leads, here, Reached, stepLimit}
+use Rattle.session.specs.declared.state.Session.{Session}
+use Rattle.session.proofs.Agreement.{agreement}
+use Rattle.session.proofs.StepLimits.{reached-limit, reached-decides}
+use Rattle.session.proofs.Obeying.{obeyed-reached}
+use Rattle.session.proofs.Openings.{opens}
+use Rattle.session.proofs.RunCalls.{run-calls, run-told}
+use Rattle.session.proofs.Tally.{steps-acts}
+use Rattle.session.proofs.Enough.{enough}
+use Rattle.agreement.specs.Demand.{Opens, Demand, OfReached, OfSchedule, OfCalls, OfAll, OfBuilt}
+
+rules : {sheet proposals : List ℕ} → Opens sheet proposals → Rules6 sheet
+rules {sheet} o = answers sheet .accepted .0 (o .accepted)
+
+pub of-reached : OfReached
+of-reached sheet proposals o s R =
+    let h = agreement sheet proposals (rules o) (o .count) R in
+    record {
+      holder = h .0;
+      agreed = h .1;
+      most = reached-limit sheet proposals (rules o) R;
+      decides = reached-decides sheet proposals (rules o) R;
+    }
+
+module _ (sheet proposals : List ℕ) (o : Opens sheet proposals) (schedule : List ℕ) (good : T (all (byteOk (getD sheet 5 0)) schedule)) where
+  reached : Reached sheet proposals (ran sheet proposals schedule)
+  reached = obeyed-reached sheet proposals (rules o) here schedule good
+
+  of-schedule : OfSchedule sheet proposals schedule
+  of-schedule =
+      record {
+        demand = of-reached sheet proposals o (ran sheet proposals schedule) reached;
+        ownSteps = λ i least most. steps-acts sheet proposals (rules o) (o .count) i least most schedule good;
+        enough = λ i least most l. enough sheet proposals (rules o) (o .count) i least most schedule good l;
+      }
+
+  of-calls : OfCalls sheet proposals schedule
+  of-calls =
+      record {
+        opens = sym (opens sheet proposals (o .accepted) (o .count) .1);
+        told = run-told sheet proposals (rules o) (o .count) schedule good;
+        demand = subst (Demand (getD sheet 5 0) proposals) (run-calls sheet proposals (rules o) (o .count) schedule good) (of-schedule .demand);
+      }
+
+pub of-all : OfAll
+of-all sheet proposals o schedule good = (of-schedule sheet proposals o schedule good, of-calls sheet proposals o schedule good)
+
+pub of-built : OfBuilt
+of-built kind bound n g proposals count schedule good =
+    let b = built-says kind bound n g in
+    of-all (builtSheet kind bound n) proposals
+    (record { accepted = b .accepted; count = count ∙ sym (b .readParties) })
+    schedule (subst (λ (m : ℕ). T (all (byteOk m) schedule)) (sym (b .readParties)) good)

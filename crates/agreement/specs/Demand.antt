@@ -1,0 +1,71 @@
+-- Demand 3, over what a caller calls. Each statement is proved in `proofs/Theorems.antt`.
+use Prim.Native.Nat.{ℕ, _≤_}
+use mathlib.Core.Path.{_≡_}
+use mathlib.Core.List.{List}
+use lib.ListN.{length, getD}
+use lib.Dec.{T, eqb}
+use Rattle.sheet.specs.Lists.{all}
+use Rattle.sheet.specs.Check.{checkAnswer, done}
+use Rattle.sheet.specs.Build.{builtSheet}
+use Rattle.sheet.specs.Given.{Given}
+use Rattle.session.specs.Calls.{Told, opened, openAnswer}
+use Rattle.session.specs.Run.{byteOk, ran}
+use Rattle.session.specs.Trace.{called, calledTold, acts, stepsBefore}
+use Rattle.session.specs.Session.{freshSession, partyOf}
+use Rattle.session.specs.Reach.{Agreed, stepLimit, Reached}
+use Rattle.session.specs.declared.state.Session.{Session}
+
+-- a sheet that the check accepts, and a proposal for each of its parties
+pub record Opens (sheet proposals : List ℕ) : Type 0 where
+  pub accepted : checkAnswer sheet ≡ done
+  pub count : length proposals ≡ getD sheet 5 0
+
+-- what demand 3 says of a session of n parties
+pub record Demand (n : ℕ) (proposals : List ℕ) (s : Session) : Type 0 where
+  -- 1. there is one party such that every party that has decided has its proposal as decision and it as candidate, and it has announced
+  -- a constant meets this only if it is the proposal of a party that has announced, whatever the proposals are
+  pub holder : ℕ
+  pub agreed : Agreed n proposals s holder
+  -- 2. no party takes more own steps than its limit, and one that has taken them has decided
+  -- a silent party takes none, and own steps are the step rules' count (`ownSteps` below), so silence does not help
+  pub most : (i : ℕ) → 1 ≤ i → i ≤ n → partyOf (s .parties) i .steps ≤ stepLimit n i
+  pub decides : (i : ℕ) → 1 ≤ i → i ≤ n → stepLimit n i ≤ partyOf (s .parties) i .steps → partyOf (s .parties) i .status ≡ 2
+
+-- ---- over the rules: any sequence of steps and stops from the fresh session
+abbrev pub OfReached : Type 0
+OfReached = (sheet proposals : List ℕ) → Opens sheet proposals → (s : Session) → Reached sheet proposals s → Demand (getD sheet 5 0) proposals s
+
+-- ---- over schedules
+
+pub record OfSchedule (sheet proposals schedule : List ℕ) : Type 0 where
+  pub demand : Demand (getD sheet 5 0) proposals (ran sheet proposals schedule)
+  -- own steps are the acts that the step rules count along the schedule
+  pub ownSteps :
+      (i : ℕ) → 1 ≤ i → i ≤ getD sheet 5 0
+      → partyOf (ran sheet proposals schedule .parties) i .steps ≡ acts (freshSession sheet proposals (getD sheet 5 0)) schedule i
+  -- 3. a party that has as many step entries as its limit before any stop of its own has decided
+  pub enough :
+      (i : ℕ) → 1 ≤ i → i ≤ getD sheet 5 0 → stepLimit (getD sheet 5 0) i ≤ stepsBefore i schedule
+      → partyOf (ran sheet proposals schedule .parties) i .status ≡ 2
+
+-- ---- 4. over the calls: any sequence of public step and stop calls on an opened session
+
+pub record OfCalls (sheet proposals schedule : List ℕ) : Type 0 where
+  -- the opening is done
+  pub opens : openAnswer sheet proposals ≡ done
+  -- no call is refused
+  pub told : T (all (λ (t : Told). eqb (t .number) 0) (calledTold (opened sheet proposals) schedule))
+  -- and the session that they leave is as demanded
+  pub demand : Demand (getD sheet 5 0) proposals (called (opened sheet proposals) schedule)
+
+-- every schedule of good bytes, as entries of the run and as calls
+abbrev pub OfAll : Type 0
+OfAll =
+    (sheet proposals : List ℕ) → Opens sheet proposals → (schedule : List ℕ) → T (all (byteOk (getD sheet 5 0)) schedule)
+    → OfSchedule sheet proposals schedule × OfCalls sheet proposals schedule
+
+-- ---- 5. a built sheet is accepted, so all of this holds of it with no condition
+abbrev pub OfBuilt : Type 0
+OfBuilt =
+    (kind bound n : ℕ) → Given kind bound n → (proposals : List ℕ) → length proposals ≡ n → (schedule : List ℕ) → T (all (byteOk n) schedule)
+    → OfSchedule (builtSheet kind bound n) proposals schedule × OfCalls (builtSheet kind bound n) proposals schedule

@@ -1,0 +1,6 @@
+-- Laws that several proofs cite; each file says its argument in its first line.
+pub mod Written
+pub mod Bytes
+pub mod Cuts
+pub mod Layouts
+pub mod Words

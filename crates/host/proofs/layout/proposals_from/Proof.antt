@@ -1,0 +1,52 @@
+-- The proposals are filled from the front, the number at 4 j into place j.
+use Prim.Native.Nat.{ℕ, _+_, _*_, _-_, _≤_}
+use mathlib.Core.Path.{refl, sym, ap, _∙_}
+use native.Mathlib.Nat.{zero-add}
+use native.Mathlib.Omega.{arith}
+use borrow.Author.Needs.{needs}
+use Rattle.sheet.specs.Bytes.{num}
+use Rattle.session.proofs.Copies.{Front, front-first, front-on, front-end, range-at}
+use Rattle.host.specs.Layout.{proposalsFrom}
+use Rattle.host.proofs.layout.proposals_from.Statement.{statement}
+use Rattle.host.proofs.layout.proposals_from.Tie as tie
+
+abbrev Inv-loop : tie.InvT-loop
+Inv-loop s proposals₀ j₀ proposals j = (j ≤ 16) × Front 16 0 (proposalsFrom s) proposals j
+
+abbrev μ-loop : tie.MeasureT-loop
+μ-loop s proposals₀ j₀ proposals j = 16 - j
+
+loop-holds : tie.Need-loop-holds Inv-loop μ-loop
+loop-holds c = (search needs, front-first 16 0 (proposalsFrom (c .before .args .s .now)))
+
+loop-again : tie.Need-loop-again Inv-loop μ-loop
+loop-again c =
+    let l = c .before .before .loop in
+    let s = c .before .before .before .before .args .s .now in
+    let read : ℕ → ℕ = λ j. num s (4 * j) 4 in
+    let own = range-at read 0 16 (l .j) 0 (omega arith) ∙ ap read (zero-add (l .j)) in (
+      search needs,
+      front-on 16 0 (proposalsFrom s) (l .proposals) (l .j) (l .j + 1) (c .four .result) 0 (omega arith) (omega arith)
+          (c .four .ensures ∙ sym own) refl (l .inv .1),
+    )
+
+returns : tie.Need-returns Inv-loop μ-loop
+returns c =
+    let l = c .before .loop in
+    front-end 16 0 (proposalsFrom (c .before .before .before .args .s .now)) (l .proposals) (l .j) (omega arith) (l .inv .1)
+
+pub proposals-from-spec : {M : Type 1} → statement M
+proposals-from-spec =
+    tie.close
+    (tie.spec
+    Inv-loop
+    μ-loop
+    loop-holds
+    (λ c. search needs)
+    (λ c κs. omega arith)
+    (λ c. omega arith)
+    (λ c. omega arith)
+    (λ c. search needs)
+    (λ c. search needs)
+    loop-again
+    returns)

@@ -1,0 +1,80 @@
+-- A session in 3,418 bytes, big-endian and without gaps: sheet copy 1,898; proposals 16 × 4; marks 1,024; published 256; parties 16 × 11.
+use Prim.Native.Nat.{ℕ, _*_, _^_, _<_}
+use mathlib.Core.Path.{_≡_}
+use mathlib.Core.List.{List, _∷_, _++_, map}
+use lib.ListN.{length, getD, take, drop}
+use Rattle.sheet.specs.Lists.{from, flat}
+use Rattle.sheet.specs.Bytes.{num, bytesOf}
+use Rattle.session.specs.declared.state.Party.{Party}
+use Rattle.session.specs.declared.state.Session.{Session}
+use Rattle.session.specs.Session.{noParty}
+
+-- a party's 11: status 1, place 1, round 1, k 1, candidate 1, steps 2, decision 4
+abbrev pub partyBytes : Party → List ℕ
+partyBytes p =
+    p .status ∷ p .place ∷ p .round ∷ p .k ∷ p .candidate ∷ bytesOf 2 (p .steps) ++ bytesOf 4 (p .decision)
+
+abbrev pub proposalsBytes : List ℕ → List ℕ
+proposalsBytes xs = flat (map (bytesOf 4) xs)
+
+abbrev pub partiesBytes : List Party → List ℕ
+partiesBytes ps = flat (map partyBytes ps)
+
+abbrev pub sessionBytes : Session → List ℕ
+sessionBytes s = s .sheet ++ proposalsBytes (s .proposals) ++ s .marks ++ s .published ++ partiesBytes (s .parties)
+
+-- the party that 11 bytes say
+abbrev pub partyFrom : List ℕ → Party
+partyFrom b =
+    record {
+      status = getD b 0 0;
+      place = getD b 1 0;
+      round = getD b 2 0;
+      k = getD b 3 0;
+      candidate = getD b 4 0;
+      steps = num b 5 2;
+      decision = num b 7 4;
+    }
+
+abbrev pub proposalsFrom : List ℕ → List ℕ
+proposalsFrom b = map (λ j. num b (4 * j) 4) (from 0 16)
+
+abbrev pub partiesFrom : List ℕ → List Party
+partiesFrom b = map (λ j. partyFrom (drop (11 * j) b)) (from 0 16)
+
+-- the session that 3,418 bytes say
+abbrev pub sessionOf : List ℕ → Session
+sessionOf b =
+    record {
+      sheet = take 1898 b;
+      proposals = proposalsFrom (drop 1898 b);
+      marks = take 1024 (drop 1962 b);
+      published = take 256 (drop 2986 b);
+      parties = partiesFrom (drop 3242 b);
+    }
+
+-- ---- sessions as the code holds them: numbers that fit their widths, lists as long as their arrays
+
+abbrev pub Below : ℕ → List ℕ → Type 0
+Below n xs = (k : ℕ) → k < length xs → getD xs k 0 < n
+
+pub record SizedParty (p : Party) : Type 0 where
+  pub statusFits : p .status < 256
+  pub placeFits : p .place < 256
+  pub roundFits : p .round < 256
+  pub kFits : p .k < 256
+  pub candidateFits : p .candidate < 256
+  pub stepsFit : p .steps < 2 ^ 16
+  pub decisionFits : p .decision < 2 ^ 32
+
+pub record Sized (s : Session) : Type 0 where
+  pub sheetLength : length (s .sheet) ≡ 1898
+  pub sheetFits : Below 256 (s .sheet)
+  pub proposalsLength : length (s .proposals) ≡ 16
+  pub proposalsFit : Below (2 ^ 32) (s .proposals)
+  pub marksLength : length (s .marks) ≡ 1024
+  pub marksFit : Below 256 (s .marks)
+  pub publishedLength : length (s .published) ≡ 256
+  pub publishedFits : Below 256 (s .published)
+  pub partiesLength : length (s .parties) ≡ 16
+  pub partiesFit : (k : ℕ) → k < length (s .parties) → SizedParty (getD (s .parties) k noParty)
