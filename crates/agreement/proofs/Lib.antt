@@ -2,3 +2,4 @@
 pub mod Errors
 pub mod Tight
 pub mod Theorems
+pub mod Record

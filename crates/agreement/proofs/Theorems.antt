@@ -1,32 +1,25 @@
 -- Demand 3 is what is proved of reached sessions, brought to schedules, to calls and to built sheets.
-use Prim.Native.Nat.{ℕ, suc, _+_, _-_, _≤_, _<_}
-use mathlib.Core.Path.{_≡_, refl, sym, ap, _∙_, subst}
-use mathlib.Core.Logic.{_⊎_, inl, inr, ⊎-elim}
-use mathlib.Core.List.{List, [], _∷_}
-use native.Mathlib.Omega.{arith}
-use lib.ListN.{length, getD}
-use lib.Dec.{T, eqb}
+use Prim.Native.Nat.{ℕ}
+use mathlib.Core.List.{List}
+use mathlib.Core.Path.{sym, _∙_, subst}
+use lib.Dec.{T}
+use lib.ListN.{getD}
+use Rattle.agreement.specs.Demand.{Opens, Demand, OfReached, OfSchedule, OfCalls, OfAll, OfBuilt}
+use Rattle.session.specs.Reach.{here, Reached}
+use Rattle.session.specs.Run.{byteOk, ran}
+use Rattle.sheet.specs.Build.{builtSheet}
 use Rattle.sheet.specs.Lists.{all}
 use Rattle.sheet.specs.Words.{Rules6}
-use Rattle.sheet.specs.Build.{builtSheet}
-use Rattle.sheet.specs.Given.{Given}
-use Rattle.sheet.proofs.Theorems.{answers, built-says}
-use Rattle.session.specs.Session.{freshSession, partyOf}
-use Rattle.session.specs.Calls.{opened}
-use Rattle.session.specs.Run.{byteOk, ran}
-use Rattle.session.specs.Trace.{called}
-use Rattle.session.specs.Reach.{Leads, here, Reached, stepLimit}
-use Rattle.session.specs.declared.state.Session.{Session}
 use Rattle.session.proofs.Agreement.{agreement}
-use Rattle.session.proofs.StepLimits.{reached-limit, reached-decides}
+use Rattle.session.proofs.Enough.{enough}
 use Rattle.session.proofs.Obeying.{obeyed-reached}
 use Rattle.session.proofs.Openings.{opens}
 use Rattle.session.proofs.RunCalls.{run-calls, run-told}
+use Rattle.session.proofs.StepLimits.{reached-limit, reached-decides}
 use Rattle.session.proofs.Tally.{steps-acts}
-use Rattle.session.proofs.Enough.{enough}
-use Rattle.agreement.specs.Demand.{Opens, Demand, OfReached, OfSchedule, OfCalls, OfAll, OfBuilt}
+use Rattle.sheet.proofs.Theorems.{answers, built-says}
 
-rules : {sheet proposals : List ℕ} → Opens sheet proposals → Rules6 sheet
+pub rules : {sheet proposals : List ℕ} → Opens sheet proposals → Rules6 sheet
 rules {sheet} o = answers sheet .accepted .0 (o .accepted)
 
 pub of-reached : OfReached
@@ -40,7 +33,7 @@ of-reached sheet proposals o s R =
     }
 
 module _ (sheet proposals : List ℕ) (o : Opens sheet proposals) (schedule : List ℕ) (good : T (all (byteOk (getD sheet 5 0)) schedule)) where
-  reached : Reached sheet proposals (ran sheet proposals schedule)
+  pub reached : Reached sheet proposals (ran sheet proposals schedule)
   reached = obeyed-reached sheet proposals (rules o) here schedule good
 
   of-schedule : OfSchedule sheet proposals schedule

@@ -1,15 +1,16 @@
--- Demand 3, over what a caller calls. Each statement is proved in `proofs/Theorems.antt`.
-use Prim.Native.Nat.{ℕ, _≤_}
+-- Demand 3, over what a caller calls. Each statement is proved in `proofs/Theorems.antt`, that of the record in `proofs/Record.antt`.
+use Prim.Native.Nat.{ℕ, _+_, _-_, _*_, _^_, _≤_, _<_}
 use mathlib.Core.Path.{_≡_}
 use mathlib.Core.List.{List}
 use lib.ListN.{length, getD}
 use lib.Dec.{T, eqb}
 use Rattle.sheet.specs.Lists.{all}
+use Rattle.sheet.specs.Bytes.{num}
 use Rattle.sheet.specs.Check.{checkAnswer, done}
 use Rattle.sheet.specs.Build.{builtSheet}
 use Rattle.sheet.specs.Given.{Given}
 use Rattle.session.specs.Calls.{Told, opened, openAnswer}
-use Rattle.session.specs.Run.{byteOk, ran}
+use Rattle.session.specs.Run.{byteOk, recordLength, runAnswer, ran, runOut}
 use Rattle.session.specs.Trace.{called, calledTold, acts, stepsBefore}
 use Rattle.session.specs.Session.{freshSession, partyOf}
 use Rattle.session.specs.Reach.{Agreed, stepLimit, Reached}
@@ -69,3 +70,48 @@ abbrev pub OfBuilt : Type 0
 OfBuilt =
     (kind bound n : ℕ) → Given kind bound n → (proposals : List ℕ) → length proposals ≡ n → (schedule : List ℕ) → T (all (byteOk n) schedule)
     → OfSchedule (builtSheet kind bound n) proposals schedule × OfCalls (builtSheet kind bound n) proposals schedule
+
+-- ---- over the run's record: what its bytes say of party i
+
+-- where party i's bytes stand: after the head of 4, 7 for each party before it
+abbrev pub placeIn : ℕ → ℕ
+placeIn i = 4 + 7 * (i - 1)
+
+abbrev pub statusIn : List ℕ → ℕ → ℕ
+statusIn out i = getD out (placeIn i) 0
+
+abbrev pub stepsIn : List ℕ → ℕ → ℕ
+stepsIn out i = num out (placeIn i + 1) 2
+
+abbrev pub decisionIn : List ℕ → ℕ → ℕ
+decisionIn out i = num out (placeIn i + 3) 4
+
+pub record OfRecord (sheet proposals schedule out : List ℕ) : Type 0 where
+  -- the run is done
+  pub done : runAnswer sheet proposals schedule (length out) ≡ done
+  -- 1. every party that has decided has decided the proposal of one same party, which has taken an own step
+  pub holder : ℕ
+  pub holderLeast : 1 ≤ holder
+  pub holderMost : holder ≤ getD sheet 5 0
+  pub agreed :
+      (i : ℕ) → 1 ≤ i → i ≤ getD sheet 5 0 → statusIn (runOut sheet proposals schedule out) i ≡ 2
+      → decisionIn (runOut sheet proposals schedule out) i ≡ getD proposals (holder - 1) 0
+  pub announced :
+      (i : ℕ) → 1 ≤ i → i ≤ getD sheet 5 0 → statusIn (runOut sheet proposals schedule out) i ≡ 2
+      → 1 ≤ stepsIn (runOut sheet proposals schedule out) holder
+  -- 2. no party has more own steps than its limit, and one that has them has decided
+  pub most : (i : ℕ) → 1 ≤ i → i ≤ getD sheet 5 0 → stepsIn (runOut sheet proposals schedule out) i ≤ stepLimit (getD sheet 5 0) i
+  pub decides :
+      (i : ℕ) → 1 ≤ i → i ≤ getD sheet 5 0 → stepLimit (getD sheet 5 0) i ≤ stepsIn (runOut sheet proposals schedule out) i
+      → statusIn (runOut sheet proposals schedule out) i ≡ 2
+  -- 3. and one that has as many step entries as its limit before any stop of its own has decided
+  pub enough :
+      (i : ℕ) → 1 ≤ i → i ≤ getD sheet 5 0 → stepLimit (getD sheet 5 0) i ≤ stepsBefore i schedule
+      → statusIn (runOut sheet proposals schedule out) i ≡ 2
+
+-- every schedule of good bytes, with an output that the record fits, and proposals of 4 bytes
+abbrev pub OfRun : Type 0
+OfRun =
+    (sheet proposals : List ℕ) → Opens sheet proposals → ((j : ℕ) → getD proposals j 0 < 2 ^ 32)
+    → (schedule : List ℕ) → T (all (byteOk (getD sheet 5 0)) schedule)
+    → (out : List ℕ) → recordLength (getD sheet 5 0) ≤ length out → OfRecord sheet proposals schedule out
