@@ -1,0 +1,3 @@
+-- What the lister prints: read from the top.
+pub mod Text
+pub mod Listed
