@@ -14,7 +14,7 @@ use Rattle.session.specs.declared.state.Party.{Party}
 use Rattle.session.specs.declared.state.Session.{Session}
 use Rattle.session.proofs.Copies.{range-at}
 use Rattle.host.specs.Layout.{partyBytes, proposalsBytes, partiesBytes, sessionBytes}
-use Rattle.host.specs.Layout.{partyFrom, proposalsFrom, partiesFrom, sessionOf, Below, SizedParty, Sized}
+use Rattle.host.specs.Layout.{partyFrom, proposalsOf, partiesFrom, sessionOf, Below, SizedParty, Sized}
 use Rattle.host.proofs.Bytes.{below-drop, below-take, below-append, below-flat, below-bytes, bytes-num}
 use Rattle.host.proofs.Cuts.{cut-joined, joined-cuts}
 
@@ -86,7 +86,7 @@ length-proposals xs l = length-flat (bytesOf 4) 4 (λ x. refl) xs ∙ ap (λ (k 
 length-parties : (ps : List Party) → length ps ≡ 16 → length (partiesBytes ps) ≡ 176
 length-parties ps l = length-flat partyBytes 11 (λ p. refl) ps ∙ ap (λ (k : ℕ). k * 11) l
 
-proposals-back : (xs rest b : List ℕ) → length xs ≡ 16 → Below (2 ^ 32) xs → b ≡ proposalsBytes xs ++ rest → proposalsFrom b ≡ xs
+proposals-back : (xs rest b : List ℕ) → length xs ≡ 16 → Below (2 ^ 32) xs → b ≡ proposalsBytes xs ++ rest → proposalsOf 16 b ≡ xs
 proposals-back xs rest b l low e =
     let read : List ℕ → ℕ = λ c. num c 0 4 in
     ap (λ (n : ℕ). map (λ j. read (drop (4 * j) b)) (from 0 n)) (sym l)
@@ -98,7 +98,7 @@ parties-back ps rest b l low e =
     ap (λ (n : ℕ). map (λ j. partyFrom (drop (11 * j) b)) (from 0 n)) (sym l)
     ∙ cut-joined partyBytes partyFrom 11 (λ p. refl) ps noParty (λ k h. party-back (getD ps k noParty) (low k h)) b rest 0 e
 
-proposals-again : (b : List ℕ) → 64 ≤ length b → Below 256 b → proposalsBytes (proposalsFrom b) ≡ take 64 b
+proposals-again : (b : List ℕ) → 64 ≤ length b → Below 256 b → proposalsBytes (proposalsOf 16 b) ≡ take 64 b
 proposals-again b h low =
     joined-cuts (bytesOf 4) (λ c. num c 0 4) 4 b 0 16
     (λ j l. bytes-num 4 0 (drop (4 * j) b) (omega (arith, length-drop (4 * j) b)) (below-drop 256 (4 * j) b low))
@@ -108,7 +108,7 @@ parties-again b h low =
     joined-cuts partyBytes partyFrom 11 b 0 16
     (λ j l. party-again (drop (11 * j) b) (omega (arith, length-drop (11 * j) b)) (below-drop 256 (11 * j) b low))
 
-proposals-fit : (b : List ℕ) → 64 ≤ length b → Below 256 b → Below (2 ^ 32) (proposalsFrom b)
+proposals-fit : (b : List ℕ) → 64 ≤ length b → Below 256 b → Below (2 ^ 32) (proposalsOf 16 b)
 proposals-fit b h low k l =
     subst⁻¹ (λ (x : ℕ). x < 2 ^ 32) (range-at (λ j. num b (4 * j) 4) 0 16 k 0 l) (num-below b (4 * (0 + k)) 4 (omega arith) low)
 

@@ -3,4 +3,10 @@ pub mod Written
 pub mod Bytes
 pub mod Cuts
 pub mod Layouts
-pub mod Words
+pub mod Packing
+pub mod Lent
+pub mod Opened
+pub mod Heard
+pub mod Filling
+pub mod HostOpen
+pub mod HostRun

@@ -36,8 +36,9 @@ partyFrom b =
       decision = num b 7 4;
     }
 
-abbrev pub proposalsFrom : List ℕ → List ℕ
-proposalsFrom b = map (λ j. num b (4 * j) 4) (from 0 16)
+-- the proposals of n parties, 4 bytes each
+abbrev pub proposalsOf : ℕ → List ℕ → List ℕ
+proposalsOf n b = map (λ j. num b (4 * j) 4) (from 0 n)
 
 abbrev pub partiesFrom : List ℕ → List Party
 partiesFrom b = map (λ j. partyFrom (drop (11 * j) b)) (from 0 16)
@@ -47,7 +48,7 @@ abbrev pub sessionOf : List ℕ → Session
 sessionOf b =
     record {
       sheet = take 1898 b;
-      proposals = proposalsFrom (drop 1898 b);
+      proposals = proposalsOf 16 (drop 1898 b);
       marks = take 1024 (drop 1962 b);
       published = take 256 (drop 2986 b);
       parties = partiesFrom (drop 3242 b);

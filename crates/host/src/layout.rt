@@ -1,10 +1,12 @@
 // A session in bytes.
 ghost use mathlib.Core.Path.{_≡_};
 ghost use mathlib.Core.List.{_++_};
-ghost use Prim.Native.Nat.{_+_, _<_, _≤_};
+ghost use mathlib.Core.Logic.{_↔_};
+ghost use Prim.Native.Nat.{ℕ, _+_, _*_, _<_, _≤_};
 ghost use lib.ListN.{length, take, drop};
 ghost use Rattle.sheet.specs.Bytes.{num, bytesOf};
-ghost use Rattle.host.specs.Layout.{partyBytes, proposalsBytes, partiesBytes, sessionBytes, partyFrom, proposalsFrom, partiesFrom, sessionOf};
+ghost use Rattle.session.specs.Session.{filled};
+ghost use Rattle.host.specs.Layout.{partyBytes, proposalsBytes, partiesBytes, sessionBytes, partyFrom, proposalsOf, partiesFrom, sessionOf};
 use session::state::Party;
 use session::state::Session;
 
@@ -54,13 +56,27 @@ fn put_four(o: &mut [u8], x: u32)
     o[3] = (x % 256) as u8;
 }
 
-fn proposals_from(s: &[u8]) -> [u32; 16]
-    requires { ⌜ 64 ≤ length (now s) ⌝ }
-    ensures { λ r. ⌜ r ≡ proposalsFrom (now (s .entry)) ⌝ }
+// How many proposals a slice of this length holds; 0, which is no number of parties, where it is of no sheet's.
+pub(crate) fn proposals_count(len: usize) -> usize
+    ensures { λ r. ⌜ (r ≤ 16) × (4 * r ≤ len) × ((n : ℕ) → 1 ≤ n → n ≤ 16 → (r ≡ n) ↔ (len ≡ 4 * n)) ⌝ }
+{
+    if 64 < len {
+        return 0;
+    }
+    if len % 4 != 0 {
+        return 0;
+    }
+    len / 4
+}
+
+// The proposals of n parties.
+pub(crate) fn proposals_from(s: &[u8], n: usize) -> [u32; 16]
+    requires { ⌜ (n ≤ 16) × (4 * n ≤ length (now s)) ⌝ }
+    ensures { λ r. ⌜ r ≡ filled 16 (proposalsOf n (now (s .entry))) ⌝ }
 {
     let mut proposals = [0u32; 16];
     let mut j = 0;
-    while j < 16 {
+    while j < n {
         proposals[j] = four(s, 4 * j);
         j += 1;
     }
@@ -147,7 +163,7 @@ pub(crate) fn decode(bytes: &[u8]) -> Session
 {
     let mut sheet = [0u8; 1898];
     copy(bytes, 1898, &mut sheet, 0);
-    let proposals = proposals_from(&bytes[1898..]);
+    let proposals = proposals_from(&bytes[1898..], 16);
     let mut marks = [0u8; 1024];
     copy(&bytes[1962..], 1024, &mut marks, 0);
     let mut published = [0u8; 256];

@@ -7,7 +7,7 @@ use borrow.Author.Needs.{needs}
 use borrow.Rule.Slice.PartAt.{part-to-end}
 use lib.ListN.{length, take, drop, replicate, length-replicate}
 use lib.Seq.{paste, drop-length}
-use Rattle.host.specs.Layout.{proposalsFrom, partiesFrom}
+use Rattle.host.specs.Layout.{proposalsOf, partiesFrom}
 use Rattle.host.proofs.layout.decode.Statement.{statement}
 use Rattle.host.proofs.layout.decode.Tie as tie
 
@@ -48,7 +48,7 @@ returns c = λ i.
     let bytes = bytes3 copied in
     record {
       sheet = sheet-is (proposed .before .before .before) i;
-      proposals = (proposed .proposals-from .ensures ∙ ap proposalsFrom (part-to-end bytes 1898)) i;
+      proposals = (proposed .proposals-from .ensures ∙ ap (proposalsOf 16) (part-to-end bytes 1898)) i;
       marks = marks-are marked i;
       published = published-is copied i;
       parties = (c .parties-from .ensures ∙ ap partiesFrom (part-to-end bytes 3242)) i;

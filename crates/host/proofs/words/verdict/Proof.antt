@@ -5,8 +5,8 @@ use Prim.Native.Nat.{ℕ}
 use Rattle.sheet.specs.Answers.{answerOf}
 use Rattle.sheet.specs.declared.answer.Verdict.{Verdict}
 use Rattle.host.specs.Word.{word}
-use Rattle.host.proofs.verdict.Statement.{statement}
-use Rattle.host.proofs.verdict.Tie as tie
+use Rattle.host.proofs.words.verdict.Statement.{statement}
+use Rattle.host.proofs.words.verdict.Tie as tie
 
 wordOf : Verdict → ℕ
 wordOf v = word (answerOf v .number) 0 (answerOf v .position)

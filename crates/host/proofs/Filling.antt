@@ -1,0 +1,18 @@
+-- The front of what was filled with a slice's proposals is those proposals.
+use Prim.Native.Nat.{ℕ, _*_, _-_, _≤_}
+use mathlib.Core.Path.{_≡_, sym, ap, _∙_}
+use mathlib.Core.List.{List}
+use native.Mathlib.Omega.{arith}
+use lib.ListN.{length, take, replicate}
+use lib.Seq.{take-at, length-take-le}
+use Rattle.sheet.specs.Bytes.{num}
+use Rattle.session.specs.Session.{filled}
+use Rattle.session.proofs.Copies.{length-range}
+use Rattle.host.specs.Layout.{proposalsOf}
+
+module _ (bytes own : List ℕ) (count : ℕ) (is : own ≡ filled 16 (proposalsOf count bytes)) where
+  pub front : take count own ≡ proposalsOf count bytes
+  front = ap (take count) is ∙ take-at (proposalsOf count bytes) _ count (length-range (λ j. num bytes (4 * j) 4) 0 count)
+
+  pub front-length : length (take count own) ≡ count
+  front-length = ap length front ∙ length-range (λ j. num bytes (4 * j) 4) 0 count
