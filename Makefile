@@ -1,16 +1,20 @@
-# run: an agreement of two parties, and a sheet; test: everything the gate runs; bench: speed beside Rust, as a ratio; lib: the library for C and Rust in dist/
+# run: agreements of two and of three parties, and a sheet; test: everything the gate runs; bench: speed beside Rust, as a ratio;
+# lib: the library for C and Rust in dist/; stack: the stack that each call needs
 CC ?= cc
 CFLAGS ?= -O2 -std=c99 -Wall -Wextra -Wpedantic -Werror
 LIB = target/staticlib/libhost.a
 
-.PHONY: run test test-long bench lib clean
+.PHONY: run test test-long bench lib stack clean
 
 # party 2 takes two steps, then party 1 seven: party 1 decides what party 2 proposed
-run: target/bin/lister $(LIB)
+run: target/bin/lister target/examples/sheet target/examples/agree
 	@printf '\2\2\1\1\1\1\1\1\1' | target/bin/lister
-	@mkdir -p target/examples
-	@$(CC) $(CFLAGS) -Iinclude examples/sheet.c $(LIB) -o target/examples/sheet
 	@target/examples/sheet
+	@target/examples/agree
+
+target/examples/%: examples/%.c include/sepalsail.h $(LIB)
+	@mkdir -p target/examples
+	@$(CC) $(CFLAGS) -Iinclude $< $(LIB) -o $@
 
 test:
 	@bash .ci/run
@@ -26,7 +30,14 @@ lib: $(LIB)
 	@mkdir -p dist/include dist/lib/pkgconfig
 	@cp $(LIB) dist/lib/libsepalsail.a
 	@cp include/sepalsail.h dist/include/sepalsail.h
-	@echo "dist/lib/libsepalsail.a dist/include/sepalsail.h"
+	@cp tools/sepalsail.pc dist/lib/pkgconfig/sepalsail.pc
+	@echo "dist/lib/libsepalsail.a dist/include/sepalsail.h dist/lib/pkgconfig/sepalsail.pc"
+
+# every symbol is bound before main, so that no call pays for the linker's stack
+stack: $(LIB)
+	@mkdir -p target/tests
+	@$(CC) -O2 -Wall -Wextra -Werror -Iinclude tests/stack.c $(LIB) -pthread -Wl,-z,now -o target/tests/stack
+	@target/tests/stack
 
 target/bin/lister: $(shell find crates -name '*.rt' -o -name '*.antt') crates.txt
 	@mkdir -p target
