@@ -46,10 +46,10 @@ static void take_turn(struct core *core, unsigned turn) {
         printf("turn %2u  core %u FAILS\n", turn, core->party);
         return;
     }
-    uint64_t answer = sepalsail_step(session, sizeof session, core->party);
+    uint32_t place = sepalsail_place(sepalsail_step(session, sizeof session, core->party));
     schedule[entries++] = sepalsail_step_byte(core->party);
-    core->over = sepalsail_value(answer) >= SEPALSAIL_PLACE_DECIDE;
-    printf("turn %2u  core %u %s\n", turn, core->party, deed[sepalsail_value(answer)]);
+    core->over = place >= SEPALSAIL_PLACE_DECIDE;
+    printf("turn %2u  core %u %s\n", turn, core->party, deed[place]);
 }
 
 int main(void) {

@@ -84,6 +84,9 @@ static inline uint32_t sepalsail_number(uint64_t answer) { return (uint32_t)(ans
 static inline uint32_t sepalsail_value(uint64_t answer) { return (uint32_t)((answer >> 8) & 0xffffffu); }
 static inline uint32_t sepalsail_position(uint64_t answer) { return (uint32_t)(answer >> 32); }
 
+/* The place in the answer of a step. It has bits 8 to 15; bits 16 to 31 of that answer are kept free and are 0. */
+static inline uint32_t sepalsail_place(uint64_t answer) { return (uint32_t)((answer >> 8) & 0xffu); }
+
 /* ---- Sheets */
 
 /* Whether a sheet is accepted.

@@ -7,7 +7,9 @@ static const uint32_t no_party[] = {0, 3, 17, 128, 129, 256, 257, 258, 65537, 21
 
 static void words_and_sizes(void) {
     const uint64_t word = UINT64_C(0xfffffffefedcba98);
-    expect(sepalsail_number(word) == 0x98 && sepalsail_value(word) == 0xfedcba && sepalsail_position(word) == 4294967294u, "fields");
+    expect(sepalsail_number(word) == 0x98 && sepalsail_value(word) == 0xfedcba && sepalsail_place(word) == 0xba &&
+               sepalsail_position(word) == 4294967294u,
+           "fields");
     expect(SEPALSAIL_SHEET_SIZE(1u) == 8 && SEPALSAIL_SHEET_SIZE(2u) == 36 && SEPALSAIL_SHEET_SIZE(3u) == 78, "sheet sizes");
     expect(SEPALSAIL_SHEET_SIZE(SEPALSAIL_PARTIES_MAX) == SEPALSAIL_SHEET_MAX, "the largest sheet");
     expect(SEPALSAIL_RECORD_SIZE(2u) == 18 && SEPALSAIL_RECORD_SIZE(SEPALSAIL_PARTIES_MAX) == SEPALSAIL_RECORD_MAX, "record sizes");
