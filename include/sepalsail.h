@@ -6,8 +6,8 @@
  * A slice is a pointer and a length. The pointer is never null, also where the length is 0, and needs no alignment. `out` and
  * `session` must not overlap an input. Inputs may overlap each other.
  * Every call takes whatever bytes and numbers it is lent, ends, and does nothing undefined. A call that refuses changes nothing.
- * The library keeps no state, allocates nothing and calls nothing but memory copies: calls on different sessions may run at the same
- * time, and one session is lent to one call at a time.
+ * The library keeps no state, allocates nothing and calls nothing but memcpy, memmove and memset: calls on different sessions may run at
+ * the same time, and one session is lent to one call at a time.
  * All numbers of more than one byte are big-endian. Parties and rows are counted from 1. docs/HOST.md has the layouts as tables.
  */
 #ifndef SEPALSAIL_H

@@ -64,13 +64,13 @@ static size_t depth_on(void (*call)(void), uint8_t filling) {
     return caller - (uintptr_t)(stack + lowest);
 }
 
-/* the calls in the order of the table, with the depths so far, accepted and refused */
+/* the calls in the order of the table, with the largest depth so far */
 static struct {
     void (*make)(void);
     const char *name;
-    size_t done, refused;
-} calls[] = {{check, "check", 0, 0}, {build, "build", 0, 0}, {open_session, "open", 0, 0}, {step, "step", 0, 0},
-             {stop, "stop", 0, 0},   {live, "live", 0, 0},   {run, "run", 0, 0}};
+    size_t most;
+} calls[] = {{check, "check", 0}, {build, "build", 0}, {open_session, "open", 0}, {step, "step", 0}, {stop, "stop", 0}, {live, "live", 0},
+             {run, "run", 0}};
 enum { CHECK, BUILD, OPEN, STEP, STOP, LIVE, RUN, CALLS };
 
 /* makes a call on two fillings; what it changes is there once */
@@ -80,9 +80,8 @@ static void measure(int which) {
     size_t one = depth_on(calls[which].make, 0x5a);
     memcpy(session, before, sizeof session);
     size_t other = depth_on(calls[which].make, 0xa5);
-    size_t *most = sepalsail_number(word) == 0 ? &calls[which].done : &calls[which].refused;
-    *most = one > *most ? one : *most;
-    *most = other > *most ? other : *most;
+    size_t deeper = one > other ? one : other;
+    calls[which].most = deeper > calls[which].most ? deeper : calls[which].most;
 }
 
 /* the check and its callers on the sheet as it is: first whole, then with one field after the other damaged */
@@ -177,9 +176,9 @@ int main(void) {
     }
     measure_sheets();
     measure_session();
-    printf("call   stack, bytes   where refused\n");
+    printf("call   stack, bytes\n");
     for (int i = 0; i < CALLS; i++) {
-        printf("%-5s  %12zu  %13zu\n", calls[i].name, calls[i].done, calls[i].refused);
+        printf("%-5s  %12zu\n", calls[i].name, calls[i].most);
     }
     return 0;
 }
