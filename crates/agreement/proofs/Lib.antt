@@ -2,4 +2,6 @@
 pub mod Errors
 pub mod Tight
 pub mod Theorems
+pub mod Parties
+pub mod Readings
 pub mod Record
