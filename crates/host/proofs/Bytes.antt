@@ -39,6 +39,10 @@ module _ (m : ℕ) where
       let l : k < n = omega arith in
       rw getD-take (low k (omega arith))
 
+  pub below-cons : (x : ℕ) (s : List ℕ) → x < m → Below m s → Below m (x ∷ s)
+  below-cons x s first ls zero h = first
+  below-cons x s first ls (suc k) h = ls k (omega arith)
+
   pub below-append : (s t : List ℕ) → Below m s → Below m t → Below m (s ++ t)
   below-append [] t ls lt k h = lt k h
   below-append (x ∷ s) t ls lt zero h = ls 0 (omega arith)

@@ -1,5 +1,5 @@
 -- Encode and decode are inverse to each other: each part is read from where it was written, and what is read of a part is the part again.
-use Prim.Native.Nat.{ℕ, zero, suc, _+_, _-_, _*_, _^_, _≤_, _<_}
+use Prim.Native.Nat.{ℕ, _+_, _-_, _*_, _^_, _≤_, _<_}
 use mathlib.Core.Path.{_≡_, refl, sym, ap, subst⁻¹, _∙_}
 use mathlib.Core.List.{List, [], _∷_, _++_, map, append-assoc, append-nil}
 use native.Mathlib.Omega.{arith}
@@ -15,7 +15,7 @@ use Rattle.session.specs.declared.state.Session.{Session}
 use Rattle.session.proofs.Copies.{range-at}
 use Rattle.host.specs.Layout.{partyBytes, proposalsBytes, partiesBytes, sessionBytes}
 use Rattle.host.specs.Layout.{partyFrom, proposalsOf, partiesFrom, sessionOf, Below, SizedParty, Sized}
-use Rattle.host.proofs.Bytes.{below-drop, below-take, below-append, below-flat, below-bytes, bytes-num}
+use Rattle.host.proofs.Bytes.{below-drop, below-take, below-cons, below-append, below-flat, below-bytes, bytes-num}
 use Rattle.host.proofs.Cuts.{cut-joined, joined-cuts}
 
 -- ---- a party: `back` is decode of encode, `again` is encode of decode
@@ -61,22 +61,16 @@ party-sized b h low =
       decisionFits = num-below b 7 4 (omega arith) low;
     }
 
-five-below : (u v x y z : ℕ) → u < 256 → v < 256 → x < 256 → y < 256 → z < 256 → Below 256 (u ∷ v ∷ x ∷ y ∷ z ∷ [])
-five-below u v x y z a b c d e zero h = a
-five-below u v x y z a b c d e (suc zero) h = b
-five-below u v x y z a b c d e (suc (suc zero)) h = c
-five-below u v x y z a b c d e (suc (suc (suc zero))) h = d
-five-below u v x y z a b c d e (suc (suc (suc (suc zero)))) h = e
-five-below u v x y z a b c d e (suc (suc (suc (suc (suc k))))) h = absurd (omega arith)
-
 party-below : (p : Party) → SizedParty p → Below 256 (partyBytes p)
 party-below p z =
-    let front : List ℕ = p .status ∷ p .place ∷ p .round ∷ p .k ∷ p .candidate ∷ [] in
-    let low : Below 256 front =
-    five-below (p .status) (p .place) (p .round) (p .k) (p .candidate) (z .statusFits) (z .placeFits) (z .roundFits) (z .kFits) (z .candidateFits) in
     let steps = bytesOf 2 (p .steps) in
     let decision = bytesOf 4 (p .decision) in
-    below-append 256 front (steps ++ decision) low (below-append 256 steps decision (below-bytes 2 (p .steps)) (below-bytes 4 (p .decision)))
+    let wide = below-append 256 steps decision (below-bytes 2 (p .steps)) (below-bytes 4 (p .decision)) in
+    let from4 = below-cons 256 (p .candidate) (steps ++ decision) (z .candidateFits) wide in
+    let from3 = below-cons 256 (p .k) (p .candidate ∷ steps ++ decision) (z .kFits) from4 in
+    let from2 = below-cons 256 (p .round) (p .k ∷ p .candidate ∷ steps ++ decision) (z .roundFits) from3 in
+    let from1 = below-cons 256 (p .place) (p .round ∷ p .k ∷ p .candidate ∷ steps ++ decision) (z .placeFits) from2 in
+    below-cons 256 (p .status) (p .place ∷ p .round ∷ p .k ∷ p .candidate ∷ steps ++ decision) (z .statusFits) from1
 
 -- ---- the parts of a session
 

@@ -10,3 +10,9 @@ pub mod Heard
 pub mod Filling
 pub mod HostOpen
 pub mod HostRun
+pub mod Fitting
+pub mod Scheduled
+pub mod Encoded
+pub mod Reading
+pub mod Openings
+pub mod Theorems

@@ -5,15 +5,16 @@ use native.Mathlib.Nat.{mod-eq-of-lt}
 use native.Mathlib.Omega.{arith}
 use Rattle.host.specs.Word.{word}
 
-module _ (number value position : ℕ) (n : number < 256) (v : value < 2 ^ 24) (p : position < 2 ^ 32) where
-  plain : word number value position ≡ number + value * 256 + position * 2 ^ 32
-  plain = ap (λ (k : ℕ). number + value * 256 + k * 2 ^ 32) (mod-eq-of-lt p)
-
+module _ (number value position : ℕ) (n : number < 256) where
   pub word-number : word number value position % 256 ≡ number
-  word-number = ap (λ (w : ℕ). w % 256) plain ∙ omega arith
+  word-number = omega arith
 
-  pub word-value : word number value position / 256 % 2 ^ 24 ≡ value
-  word-value = ap (λ (w : ℕ). w / 256 % 2 ^ 24) plain ∙ omega arith
+  module _ (v : value < 2 ^ 24) (p : position < 2 ^ 32) where
+    plain : word number value position ≡ number + value * 256 + position * 2 ^ 32
+    plain = ap (λ (k : ℕ). number + value * 256 + k * 2 ^ 32) (mod-eq-of-lt p)
 
-  pub word-position : word number value position / 2 ^ 32 ≡ position
-  word-position = ap (λ (w : ℕ). w / 2 ^ 32) plain ∙ omega arith
+    pub word-value : word number value position / 256 % 2 ^ 24 ≡ value
+    word-value = ap (λ (w : ℕ). w / 256 % 2 ^ 24) plain ∙ omega arith
+
+    pub word-position : word number value position / 2 ^ 32 ≡ position
+    word-position = ap (λ (w : ℕ). w / 2 ^ 32) plain ∙ omega arith

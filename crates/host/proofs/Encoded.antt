@@ -1,0 +1,117 @@
+-- A call on the bytes of a session reads that session back, so it answers and leaves what the call on it does, call after call.
+use Prim.Native.Nat.{ℕ, _%_, _^_, _≤_, _<_}
+use mathlib.Core.Path.{_≡_, refl, sym, ap, _∙_}
+use mathlib.Core.List.{List, [], _∷_, map}
+use mathlib.Core.Bool.{Bool, true, false, cond}
+use native.Mathlib.Omega.{arith}
+use borrow.Author.Tests.{eq-eqb}
+use lib.Dec.{T}
+use lib.ListN.{length, getD}
+use Rattle.sheet.specs.Check.{within}
+use Rattle.sheet.proofs.Folds.{holds}
+use Rattle.session.specs.Step as Rules
+use Rattle.session.specs.Session.{partyOf}
+use Rattle.session.specs.WellFormed.{wellFormed}
+use Rattle.session.specs.Calls.{Told, told, unlessRefused, unlessKept}
+use Rattle.session.specs.Run.{obeyed}
+use Rattle.session.specs.Reach.{Reached}
+use Rattle.session.specs.declared.state.Session.{Session}
+use Rattle.session.proofs.FormWords.{well-formed-says}
+use Rattle.session.proofs.Refusals.{parties-byte, past, answered, no-party}
+use Rattle.session.proofs.Reached.{reached-parties, reached-well-formed}
+use Rattle.agreement.specs.Demand.{Opens}
+use Rattle.agreement.proofs.Theorems.{rules}
+use Rattle.host.specs.Word.{toldWord}
+use Rattle.host.specs.Layout.{sessionBytes, sessionOf, Below, Sized}
+use Rattle.host.specs.Calls.{onSession, bytesAfter}
+use Rattle.host.specs.Demand.{Call, step, stop, after, callWord, afterAll, wordsOf, refusalOf}
+use Rattle.host.proofs.Layouts.{length-session, decode-encode}
+use Rattle.host.proofs.Packing.{word-number}
+use Rattle.host.proofs.Fitting.{reached-sized}
+use Rattle.host.proofs.Scheduled.{scheduleOf, next, next-reached, schedule-next}
+
+-- ---- a call on the bytes of a session
+
+module _ (s : Session) (z : Sized s) (tell : Session → Told) (go : Session → Session) where
+  abbrev bytes : List ℕ
+  bytes = sessionBytes s
+
+  on-session : onSession bytes tell ≡ tell s
+  on-session =
+      ap (λ (b : Bool). cond b (tell (sessionOf bytes)) (told 9 0)) (eq-eqb (length bytes) 3418 (length-session s z)) ∙ ap tell (decode-encode s z)
+
+  -- what it leaves, and its refusal number
+  abbrev Leaves : Session → ℕ → Type 0
+  Leaves t number = (bytesAfter bytes (onSession bytes tell) go ≡ sessionBytes t) × (toldWord (onSession bytes tell) % 256 ≡ number)
+
+  number-is : (number value : ℕ) → number < 256 → told number value ≡ tell s → toldWord (onSession bytes tell) % 256 ≡ number
+  number-is number value low e = ap (λ (t : Told). toldWord t % 256) (on-session ∙ sym e) ∙ word-number number value 0 low
+
+  leaves-next : (value : ℕ) → told 0 value ≡ tell s → Leaves (go s) 0
+  leaves-next value e = (
+    ap (λ (t : Told). bytesAfter bytes t go) (on-session ∙ sym e) ∙ ap (λ (t : Session). sessionBytes (go t)) (decode-encode s z),
+    number-is 0 value (omega arith) e,
+  )
+
+  leaves-same : told 10 0 ≡ tell s → Leaves s 10
+  leaves-same e = (ap (λ (t : Told). bytesAfter bytes t go) (on-session ∙ sym e), number-is 10 0 (omega arith) e)
+
+-- ---- calls on the bytes of a reached session
+
+module _ (sheet proposals : List ℕ) (o : Opens sheet proposals) (low : Below 256 sheet) (words : (j : ℕ) → getD proposals j 0 < 2 ^ 32) where
+  abbrev n : ℕ
+  n = getD sheet 5 0
+
+  module _ {s : Session} (R : Reached sheet proposals s) where
+    formed : T (wellFormed s)
+    formed = well-formed-says s .1 (reached-well-formed sheet proposals (rules o) (o .count) R)
+
+    sized : Sized s
+    sized = reached-sized sheet proposals o low words R
+
+    -- a call that makes `act` of the session and answers `value`
+    module _ (act : Session → ℕ → Session) (value : Session → ℕ → ℕ) (i : ℕ) where
+      test : within 1 n i ≡ within 1 (getD (s .sheet) 5 0) i
+      test = ap (λ (m : ℕ). within 1 m i) (sym (parties-byte s formed ∙ reached-parties sheet proposals (rules o) R))
+
+      abbrev tell : Session → Told
+      tell t = unlessRefused t i (value t i)
+
+      abbrev go : Session → Session
+      go t = unlessKept t i (act t i)
+
+      leaves : Leaves s sized tell go (cond (within 1 n i) (act s i) s) (cond (within 1 n i) 0 10)
+      leaves = by (within 1 n i) refl
+        where
+          well : true ≡ wellFormed s
+          well = sym (holds (wellFormed s) formed)
+
+          by : (w : Bool) → within 1 n i ≡ w → Leaves s sized tell go (cond w (act s i) s) (cond w 0 10)
+          by true e =
+              let done = answered act value s i (past s i well refl (sym e ∙ test) refl) in
+              let left = leaves-next s sized tell go (value s i) (done .1) in
+              (left .0 ∙ ap sessionBytes (sym (done .0)), left .1)
+          by false e = leaves-same s sized tell go (no-party act value s i well refl (sym e ∙ test) refl .1)
+
+    call-leaves : (c : Call) → (after (sessionBytes s) c ≡ sessionBytes (next n s c)) × (callWord (sessionBytes s) c % 256 ≡ refusalOf n c)
+    call-leaves (step i) = leaves Rules.step Rules.placeActed i
+    call-leaves (stop i) = leaves Rules.stop (λ t j. partyOf (Rules.stop t j .parties) j .status) i
+
+  few : n ≤ 16
+  few = rules o .before .before .before .header .partiesMost
+
+  pub calls-leave : {s : Session} → Reached sheet proposals s → (cs : List Call)
+      → afterAll (sessionBytes s) cs ≡ sessionBytes (obeyed s (scheduleOf n cs))
+  calls-leave R [] = refl
+  calls-leave {s} R (c ∷ cs) =
+      ap (λ (b : List ℕ). afterAll b cs) (call-leaves R c .0)
+      ∙ calls-leave (next-reached sheet proposals R c) cs
+      ∙ ap sessionBytes (schedule-next n few s c cs)
+
+  pub calls-number : {s : Session} → Reached sheet proposals s → (cs : List Call)
+      → map (λ w. w % 256) (wordsOf (sessionBytes s) cs) ≡ map (refusalOf n) cs
+  calls-number R [] = refl
+  calls-number {s} R (c ∷ cs) =
+      let here = call-leaves R c in
+      let later = ap (λ (b : List ℕ). map (λ w. w % 256) (wordsOf b cs)) (here .0) ∙ calls-number (next-reached sheet proposals R c) cs in
+      λ i. here .1 i ∷ later i

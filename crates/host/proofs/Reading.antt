@@ -1,0 +1,44 @@
+-- What the bytes of a session say of a party at its place is the party, since they say the session.
+use Prim.Native.Nat.{ℕ, _-_, _*_, _≤_}
+use mathlib.Core.Path.{_≡_, sym, ap, _∙_}
+use mathlib.Core.List.{List}
+use native.Mathlib.Nat.{zero-add, add-zero}
+use native.Mathlib.Omega.{arith}
+use lib.ListN.{getD, drop}
+use lib.Seq.{drop-drop, getD-drop}
+use Rattle.sheet.proofs.Numbers.{num-drop}
+use Rattle.session.specs.Session.{noParty, partyOf}
+use Rattle.session.specs.declared.state.Party.{Party}
+use Rattle.session.specs.declared.state.Session.{Session}
+use Rattle.session.proofs.Copies.{range-at}
+use Rattle.agreement.proofs.Readings.{Says}
+use Rattle.host.specs.Layout.{partyFrom, sessionBytes, Sized}
+use Rattle.host.specs.Demand.{placeIn, statusIn, stepsIn, decisionIn}
+use Rattle.host.proofs.Layouts.{decode-encode}
+
+-- the bytes say p of party i
+abbrev pub In : List ℕ → ℕ → Party → Type 0
+In bytes i p = Says p (statusIn bytes i) (stepsIn bytes i) (decisionIn bytes i)
+
+module _ (s : Session) (z : Sized s) (i : ℕ) (least : 1 ≤ i) (most : i ≤ 16) where
+  abbrev bytes : List ℕ
+  bytes = sessionBytes s
+
+  party-at : partyFrom (drop (placeIn i) bytes) ≡ partyOf (s .parties) i
+  party-at =
+      let read : ℕ → Party = λ j. partyFrom (drop (11 * j) (drop 3242 bytes)) in
+      ap partyFrom (sym (drop-drop (11 * (i - 1)) 3242 bytes))
+      ∙ ap read (sym (zero-add (i - 1)))
+      ∙ sym (range-at read 0 16 (i - 1) noParty (omega arith))
+      ∙ ap (λ (t : Session). partyOf (t .parties) i) (decode-encode s z)
+
+  pub says : In bytes i (partyOf (s .parties) i)
+  says =
+      record {
+        status =
+            ap (λ (j : ℕ). getD bytes j 0) (sym (add-zero (placeIn i)))
+            ∙ sym (getD-drop (placeIn i) bytes 0 0)
+            ∙ ap (λ (p : Party). p .status) party-at;
+        steps = sym (num-drop bytes (placeIn i) 5 2) ∙ ap (λ (p : Party). p .steps) party-at;
+        decision = sym (num-drop bytes (placeIn i) 7 4) ∙ ap (λ (p : Party). p .decision) party-at;
+      }
