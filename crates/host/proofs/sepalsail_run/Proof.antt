@@ -3,6 +3,7 @@ use Prim.Native.Nat.{ℕ}
 use mathlib.Core.Path.{_≡_, sym, ap, _∙_}
 use mathlib.Core.List.{List}
 use mathlib.Core.Bool.{cond}
+use native.Mathlib.Omega.{arith}
 use borrow.Author.Needs.{needs}
 use lib.Dec.{eqb}
 use lib.ListN.{length, take}
@@ -37,10 +38,11 @@ returns c =
     let n = f .before .proposals-count .result in
     let fits = f .before .proposals-count .ensures .2 in
     let h = heard (a .schedule .now) in
-    let bad = heard-some lastIndex (a .sheet .now) (proposalsOf n (a .proposals .now)) (a .schedule .now) (c .before .before .if1 .taken) in
+    let bad = heard-some lastIndex (a .sheet .now) (proposalsOf n (a .proposals .now)) (a .schedule .now) (omega (arith, c .before .before .if1 .taken)) in
     let told = ap (λ (xs : List ℕ). runAnswer (a .sheet .now) xs h 0) (lent-is f) in (
       c .run-long .ensures ∙ ap answerWord (told ∙ bad-any (a .sheet .now) (a .proposals .now) n fits h (a .out .now) bad 0),
-      bad-kept (a .sheet .now) (a .proposals .now) n fits h (a .out .now) bad (runOut (a .sheet .now) (proposalsFor (a .sheet .now) (a .proposals .now)) (a .schedule .now) (a .out .now)),
+      bad-kept (a .sheet .now) (a .proposals .now) n fits h (a .out .now) bad
+          (runOut (a .sheet .now) (proposalsFor (a .sheet .now) (a .proposals .now)) (a .schedule .now) (a .out .now)),
     )
 
 returns-2 : tie.Need-returns-2
