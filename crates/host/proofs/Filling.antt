@@ -1,10 +1,9 @@
 -- The front of what was filled with a slice's proposals is those proposals.
-use Prim.Native.Nat.{ℕ, _*_, _-_, _≤_}
-use mathlib.Core.Path.{_≡_, sym, ap, _∙_}
+use Prim.Native.Nat.{ℕ, _*_, _-_}
+use mathlib.Core.Path.{_≡_, ap, _∙_}
 use mathlib.Core.List.{List}
-use native.Mathlib.Omega.{arith}
-use lib.ListN.{length, take, replicate}
-use lib.Seq.{take-at, length-take-le}
+use lib.ListN.{length, take}
+use lib.Seq.{take-at}
 use Rattle.sheet.specs.Bytes.{num}
 use Rattle.session.specs.Session.{filled}
 use Rattle.session.proofs.Copies.{length-range}

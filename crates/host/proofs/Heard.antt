@@ -56,7 +56,7 @@ module _ (last : ℕ) (sheet xs schedule : List ℕ) (long : last < length sched
   is-heard : badAt last schedule ≡ front ++ (0 ∷ drop (suc last) schedule)
   is-heard = rw (lt-ltb last (length schedule) long)
 
-  heard-bad : firstBad ok 1 (badAt last schedule) ≡ cond (eqb bad 0) (1 + last) bad
+  pub heard-bad : firstBad ok 1 (badAt last schedule) ≡ cond (eqb bad 0) (1 + last) bad
   heard-bad =
       ap (firstBad ok 1) is-heard
       ∙ first-joined ok 1 front 0 (drop (suc last) schedule) (omega arith) (λ t. t)

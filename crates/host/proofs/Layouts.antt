@@ -1,5 +1,5 @@
 -- Encode and decode are inverse to each other: each part is read from where it was written, and what is read of a part is the part again.
-use Prim.Native.Nat.{ℕ, _+_, _-_, _*_, _^_, _≤_, _<_}
+use Prim.Native.Nat.{ℕ, _+_, _*_, _^_, _≤_, _<_}
 use mathlib.Core.Path.{_≡_, refl, sym, ap, subst⁻¹, _∙_}
 use mathlib.Core.List.{List, [], _∷_, _++_, map, append-assoc, append-nil}
 use native.Mathlib.Omega.{arith}
@@ -114,12 +114,31 @@ parties-fit b h low k l =
 
 -- ---- a session
 
+-- lists as long as their arrays
+pub record Full (s : Session) : Type 0 where
+  pub sheetFull : length (s .sheet) ≡ 1898
+  pub proposalsFull : length (s .proposals) ≡ 16
+  pub marksFull : length (s .marks) ≡ 1024
+  pub publishedFull : length (s .published) ≡ 256
+  pub partiesFull : length (s .parties) ≡ 16
+
+pub length-full : (s : Session) → Full s → length (sessionBytes s) ≡ 3418
+length-full s f =
+    let p = length-proposals (s .proposals) (f .proposalsFull) in
+    let q = length-parties (s .parties) (f .partiesFull) in
+    simp length-append (omega (arith, f .sheetFull, f .marksFull, f .publishedFull))
+
 module _ (s : Session) (z : Sized s) where
   pub length-session : length (sessionBytes s) ≡ 3418
   length-session =
-      let p = length-proposals (s .proposals) (z .proposalsLength) in
-      let q = length-parties (s .parties) (z .partiesLength) in
-      simp length-append (omega (arith, z .sheetLength, z .marksLength, z .publishedLength))
+      length-full s
+      (record {
+        sheetFull = z .sheetLength;
+        proposalsFull = z .proposalsLength;
+        marksFull = z .marksLength;
+        publishedFull = z .publishedLength;
+        partiesFull = z .partiesLength;
+      })
 
   pub below-session : Below 256 (sessionBytes s)
   below-session =
@@ -150,6 +169,16 @@ module _ (s : Session) (z : Sized s) where
         parties = parties-back (s .parties) [] (drop 3242 b) (z .partiesLength) (z .partiesFit) (from3242 ∙ sym (append-nil Q)) i;
       }
 
+pub full-session : (b : List ℕ) → length b ≡ 3418 → Full (sessionOf b)
+full-session b l =
+    record {
+      sheetFull = length-take-le 1898 b (omega arith);
+      proposalsFull = refl;
+      marksFull = length-take-le 1024 (drop 1962 b) (omega (arith, length-drop 1962 b));
+      publishedFull = length-take-le 256 (drop 2986 b) (omega (arith, length-drop 2986 b));
+      partiesFull = refl;
+    }
+
 module _ (b : List ℕ) (l : length b ≡ 3418) (low : Below 256 b) where
   pub encode-decode : sessionBytes (sessionOf b) ≡ b
   encode-decode =
@@ -165,17 +194,17 @@ module _ (b : List ℕ) (l : length b ≡ 3418) (low : Below 256 b) where
   -- what is decoded is a session as the code holds it
   pub sized-session : Sized (sessionOf b)
   sized-session =
-      let after : (a : ℕ) → length (drop a b) ≡ 3418 - a = λ a. length-drop a b ∙ ap (λ (n : ℕ). n - a) l in
+      let full = full-session b l in
       let lowAfter : (a : ℕ) → Below 256 (drop a b) = λ a. below-drop 256 a b low in
       record {
-        sheetLength = length-take-le 1898 b (omega arith);
+        sheetLength = full .sheetFull;
         sheetFits = below-take 256 1898 b low;
         proposalsLength = refl;
-        proposalsFit = proposals-fit (drop 1898 b) (omega (arith, after 1898)) (lowAfter 1898);
-        marksLength = length-take-le 1024 (drop 1962 b) (omega (arith, after 1962));
+        proposalsFit = proposals-fit (drop 1898 b) (omega (arith, length-drop 1898 b)) (lowAfter 1898);
+        marksLength = full .marksFull;
         marksFit = below-take 256 1024 (drop 1962 b) (lowAfter 1962);
-        publishedLength = length-take-le 256 (drop 2986 b) (omega (arith, after 2986));
+        publishedLength = full .publishedFull;
         publishedFits = below-take 256 256 (drop 2986 b) (lowAfter 2986);
         partiesLength = refl;
-        partiesFit = parties-fit (drop 3242 b) (omega (arith, after 3242)) (lowAfter 3242);
+        partiesFit = parties-fit (drop 3242 b) (omega (arith, length-drop 3242 b)) (lowAfter 3242);
       }

@@ -10,6 +10,10 @@ pub mod Heard
 pub mod Filling
 pub mod HostOpen
 pub mod HostRun
+pub mod Lengths
+pub mod Leaving
+pub mod Ranges
+pub mod Says
 pub mod Fitting
 pub mod Scheduled
 pub mod Encoded

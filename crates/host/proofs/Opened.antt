@@ -7,35 +7,23 @@ use mathlib.Core.Bool.{Bool, true, false, not, cond}
 use native.Mathlib.Decide.{ℕ-discrete}
 use native.Mathlib.Omega.{arith}
 use borrow.Author.Tests.{eq-eqb, ne-eqb}
-use lib.Dec.{T, ltb, eqb}
+use lib.Dec.{ltb, eqb}
 use lib.ListN.{length, getD}
 use Rattle.sheet.specs.Rows.{layoutOf}
 use Rattle.sheet.specs.Bytes.{num}
-use Rattle.sheet.specs.Check.{Answer, answer, done, headerOk, lengthOk, checkAnswer}
+use Rattle.sheet.specs.Check.{Answer, done, headerOk, lengthOk, checkAnswer}
 use Rattle.sheet.proofs.Folds.{held, failed}
 use Rattle.sheet.proofs.Says.{rows, writers}
-use Rattle.sheet.proofs.Theorems.{answers}
 use Rattle.session.specs.Calls.{openAnswer}
 use Rattle.session.proofs.Copies.{length-range}
+use Rattle.session.proofs.FormWords.{accepted-says}
 use Rattle.host.specs.Layout.{proposalsOf}
 use Rattle.host.specs.Calls.{unlessUnopened, proposalsFor}
 
--- ---- the check's answer: number 0 is "done", and none is above 6
-
-abbrev Numbered : Answer → Type 0
-Numbered a = (T (eqb (a .number) 0) → a ≡ done) × (a .number ≤ 6)
-
-by-tests : (a b c d e : Bool) (k : ℕ) (f : Bool) (m : ℕ)
-    → Numbered
-    (cond a (answer 1 0)
-    (cond (not b) (answer 2 0) (cond (not c) (answer 3 0) (cond (not d) (answer 4 0) (cond e (cond f done (answer 6 m)) (answer 5 k))))))
-by-tests true b c d e k f m = (λ t. absurd t, omega arith)
-by-tests false false c d e k f m = (λ t. absurd t, omega arith)
-by-tests false true false d e k f m = (λ t. absurd t, omega arith)
-by-tests false true true false e k f m = (λ t. absurd t, omega arith)
-by-tests false true true true false k f m = (λ t. absurd t, omega arith)
-by-tests false true true true true k false m = (λ t. absurd t, omega arith)
-by-tests false true true true true k true m = (λ t. refl, omega arith)
+-- what is chosen where a test is passed has a property, and what where it is not
+pub chosen : {A : Type 0} (P : A → Type 0) {x y : A} (b : Bool) → (b ≡ true → P x) → (b ≡ false → P y) → P (cond b x y)
+chosen P true f g = f refl
+chosen P false f g = g refl
 
 module _ (sheet : List ℕ) where
   abbrev ok : Bool
@@ -44,19 +32,21 @@ module _ (sheet : List ℕ) where
   abbrev n : ℕ
   n = getD sheet 5 0
 
-  numbered : Numbered (checkAnswer sheet)
-  numbered =
-      by-tests (ltb (length sheet) 8) (eqb (getD sheet 2 0) 1) (headerOk (layoutOf sheet)) (lengthOk sheet)
-      (eqb (rows sheet) 0) (rows sheet) (eqb (writers sheet) 0) (writers sheet)
+  abbrev Most : ℕ → Answer → Type 0
+  Most k a = a .number ≤ k
+
+  check-most : Most 6 (checkAnswer sheet)
+  check-most =
+      chosen (Most 6) (ltb (length sheet) 8) (λ _. omega arith) (λ _.
+      chosen (Most 6) (not (eqb (getD sheet 2 0) 1)) (λ _. omega arith) (λ _.
+      chosen (Most 6) (not (headerOk (layoutOf sheet))) (λ _. omega arith) (λ _.
+      chosen (Most 6) (not (lengthOk sheet)) (λ _. omega arith) (λ _.
+      chosen (Most 6) (eqb (rows sheet) 0) (λ _. chosen (Most 6) (eqb (writers sheet) 0) (λ _. omega arith) (λ _. omega arith)) (λ _. omega arith)))))
 
   -- an opening is refused with at most 7
   pub open-most : (xs : List ℕ) → openAnswer sheet xs .number ≤ 7
-  open-most xs = by ok (eqb (length xs) n)
-    where
-      by : (o t : Bool) → cond o (cond t done (answer 7 0)) (checkAnswer sheet) .number ≤ 7
-      by true true = omega arith
-      by true false = omega arith
-      by false t = let most = numbered .1 in omega arith
+  open-most xs =
+      chosen (Most 7) ok (λ _. chosen (Most 7) (eqb (length xs) n) (λ _. omega arith) (λ _. omega arith)) (λ _. omega (arith, check-most))
 
   -- ---- the proposals that the bytes hold
 
@@ -77,7 +67,7 @@ module _ (sheet : List ℕ) where
     module _ (e : ok ≡ true) where
       same : (count ≡ n) ↔ (length bytes ≡ 4 * n)
       same =
-          let header = answers sheet .accepted .0 (numbered .0 (held ok e)) .before .before .before .header in
+          let header = accepted-says sheet .0 (held ok e) .before .before .before .header in
           fits n (header .partiesLeast) (header .partiesMost)
 
       by-count : Dec (length bytes ≡ 4 * n) → Opens ⊎ Refuses

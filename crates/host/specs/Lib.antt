@@ -1,4 +1,5 @@
 pub mod Word
 pub mod Layout
 pub mod Calls
+pub mod Says
 pub mod Demand

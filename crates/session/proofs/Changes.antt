@@ -21,7 +21,7 @@ use Rattle.session.proofs.Stamps.{getD-passed}
 
 module _ (s : Session) (i : ℕ) where
   -- what holds of the session and of the act holds of the step
-  step-either : (P : Session → Type 0) → P (acted s i) → P s → P (step s i)
+  pub step-either : (P : Session → Type 0) → P (acted s i) → P s → P (step s i)
   unfolding step
   step-either P a b = by (isLive (partyOf (s .parties) i))
     where

@@ -6,7 +6,6 @@ use borrow.Author.Needs.{needs}
 use lib.ListN.{take}
 use Rattle.sheet.specs.Answers.{answerOf}
 use Rattle.session.specs.Calls.{openAnswer, opened}
-use Rattle.session.specs.declared.state.Session.{Session}
 use Rattle.host.specs.Layout.{proposalsOf}
 use Rattle.host.proofs.Filling.{front, front-length}
 use Rattle.host.proofs.HostOpen.{open-refused, open-short, open-filled}
