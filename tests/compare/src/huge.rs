@@ -1,5 +1,6 @@
-//! A schedule of 2^32 bytes without that much memory: one piece of a file is mapped again and
-//! again behind itself (Linux). The run's refusal 8 at index 2^32 − 1 can be tried with it.
+//! Schedules of 2^32 bytes and more without that much memory: one piece of a file is mapped again
+//! and again behind itself (Linux). They lie between pages that cannot be read, and can themselves
+//! only be read.
 
 use std::fs::{self, File};
 use std::io::{Error, Write};
@@ -15,26 +16,42 @@ extern "C" {
         offset: i64,
     ) -> *mut u8;
     fn munmap(address: *mut u8, length: usize) -> i32;
+    fn mprotect(address: *mut u8, length: usize, protection: i32) -> i32;
 }
 
+const NONE: i32 = 0;
 const READ: i32 = 1;
-const SHARED: i32 = 1;
+const WRITE: i32 = 2;
 const PRIVATE: i32 = 2;
 const FIXED: i32 = 0x10;
 const ANONYMOUS: i32 = 0x20;
 const NO_RESERVE: i32 = 0x4000;
 const PIECE: usize = 1 << 24;
+/// What lies before and behind and cannot be read.
+const GUARD: usize = 1 << 16;
 
-/// 2^32 bytes of one value.
-pub struct Huge {
-    address: *mut u8,
-}
-
-/// How many bytes a `Huge` has.
+/// 2^32.
 pub const LENGTH: usize = 1 << 32;
 
+/// A schedule that is mapped.
+pub struct Huge {
+    reserved: *mut u8,
+    pieces: usize,
+    length: usize,
+}
+
+/// The last error, if a call gave none of an address or zero.
+fn checked(good: bool) -> Result<(), Error> {
+    if good {
+        Ok(())
+    } else {
+        Err(Error::last_os_error())
+    }
+}
+
 impl Huge {
-    pub fn new(value: u8) -> Result<Huge, Error> {
+    /// This many bytes of one value, with others at these indexes.
+    pub fn new(length: usize, value: u8, others: &[(usize, u8)]) -> Result<Huge, Error> {
         let path = std::env::temp_dir().join(format!("compare-huge-{}", std::process::id()));
         let mut file = File::options()
             .read(true)
@@ -43,35 +60,57 @@ impl Huge {
             .open(&path)?;
         fs::remove_file(&path)?;
         file.write_all(&vec![value; PIECE])?;
+        let pieces = length.div_ceil(PIECE);
+        let whole = pieces * PIECE + 2 * GUARD;
         let flags = PRIVATE | ANONYMOUS | NO_RESERVE;
         // SAFETY: asks for fresh address space.
-        let address = unsafe { mmap(std::ptr::null_mut(), LENGTH, READ, flags, -1, 0) };
-        if address as isize == -1 {
-            return Err(Error::last_os_error());
-        }
-        let huge = Huge { address };
-        for at in (0..LENGTH).step_by(PIECE) {
+        let reserved = unsafe { mmap(std::ptr::null_mut(), whole, NONE, flags, -1, 0) };
+        checked(reserved as isize != -1)?;
+        let huge = Huge {
+            reserved,
+            pieces,
+            length,
+        };
+        for piece in 0..pieces {
             // SAFETY: the piece lies inside the address space just reserved.
-            let piece = unsafe {
-                let to = address.add(at);
-                mmap(to, PIECE, READ, SHARED | FIXED, file.as_raw_fd(), 0)
+            let mapped = unsafe {
+                let to = huge.mapped().add(piece * PIECE);
+                let flags = PRIVATE | FIXED | NO_RESERVE;
+                mmap(to, PIECE, READ | WRITE, flags, file.as_raw_fd(), 0)
             };
-            if piece as isize == -1 {
-                return Err(Error::last_os_error());
-            }
+            checked(mapped as isize != -1)?;
         }
+        for (index, other) in others {
+            assert!(*index < length);
+            // SAFETY: the index is below the length, all of which is mapped for writing.
+            unsafe { *huge.first().add(*index) = *other };
+        }
+        // SAFETY: the pieces just mapped.
+        checked(unsafe { mprotect(huge.mapped(), pieces * PIECE, READ) } == 0)?;
         Ok(huge)
+    }
+
+    /// Where the pieces begin.
+    fn mapped(&self) -> *mut u8 {
+        // SAFETY: inside the reserved address space.
+        unsafe { self.reserved.add(GUARD) }
+    }
+
+    /// Where the bytes begin: they end where the pages that cannot be read begin.
+    fn first(&self) -> *mut u8 {
+        // SAFETY: inside the pieces.
+        unsafe { self.mapped().add(self.pieces * PIECE - self.length) }
     }
 
     pub fn bytes(&self) -> &[u8] {
         // SAFETY: all of it is mapped for reading until it is dropped, and nothing writes to it.
-        unsafe { std::slice::from_raw_parts(self.address, LENGTH) }
+        unsafe { std::slice::from_raw_parts(self.first(), self.length) }
     }
 }
 
 impl Drop for Huge {
     fn drop(&mut self) {
         // SAFETY: the address space that `new` reserved.
-        unsafe { munmap(self.address, LENGTH) };
+        unsafe { munmap(self.reserved, self.pieces * PIECE + 2 * GUARD) };
     }
 }

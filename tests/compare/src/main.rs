@@ -1,13 +1,12 @@
 //! The comparison: makes inputs from a seed, calls the model of document 01 and the linked
 //! library, and stops with a full report at the first difference.
 //!
-//!     compare [--seconds N] [--seed S] [--only sheets|sessions|runs|lister] [--huge]
-//!             [--lister PATH]
+//!     compare [--seconds N] [--seed S] [--only sheets|sessions|runs|lister|huge] [--lister PATH]
 //!
 //! The fixed cases of each kind are run once and whole; random cases follow, some of each group
-//! in any case, until N seconds have passed since the start. `--huge` adds schedules of 2^32
-//! bytes to the runs (some minutes), `--lister` compares what the lister program at that path
-//! prints. The last line is `N passed, M failed`: groups of cases that were compared without a
+//! in any case, until N seconds have passed since the start. Schedules of 2^32 bytes (`huge`, some
+//! minutes) are run only if asked for and whatever the time; `--lister` compares what the lister
+//! program at that path prints. The last line is `N passed, M failed`: groups of cases that were compared without a
 //! difference, and groups with a difference or without a case. With M above 0 the program ends
 //! with 1, after a crash or a wrong command line with another number above 0.
 
@@ -20,8 +19,8 @@ use std::path::PathBuf;
 use std::process::ExitCode;
 use std::time::{SystemTime, UNIX_EPOCH};
 
-const USAGE: &str = "compare [--seconds N] [--seed S] [--only sheets|sessions|runs|lister] \
-                     [--huge] [--lister PATH]";
+const USAGE: &str = "compare [--seconds N] [--seed S] \
+                     [--only sheets|sessions|runs|lister|huge] [--lister PATH]";
 
 /// How many slices of random cases are run even if the time is over (some seconds).
 const FEWEST_SLICES: u32 = 300;
@@ -31,7 +30,6 @@ struct Wanted {
     seconds: f64,
     seed: u64,
     only: Option<Kind>,
-    huge: bool,
     lister: Option<PathBuf>,
 }
 
@@ -42,15 +40,10 @@ fn wanted() -> Result<Wanted, String> {
         seconds: 60.0,
         seed: now.map_or(1, |since| since.as_nanos() as u64),
         only: None,
-        huge: false,
         lister: None,
     };
     let mut words = std::env::args().skip(1);
     while let Some(word) = words.next() {
-        if word == "--huge" {
-            wanted.huge = true;
-            continue;
-        }
         let value = words.next().ok_or(format!("{word} needs a value"))?;
         match word.as_str() {
             "--seconds" => wanted.seconds = value.parse().map_err(|_| "bad --seconds")?,
@@ -90,6 +83,8 @@ cases!(kinds::sheets::Sheets);
 cases!(kinds::sessions::Sessions);
 #[cfg(feature = "runs")]
 cases!(kinds::runs::Runs);
+#[cfg(feature = "runs")]
+cases!(kinds::huge::Huge);
 cases!(kinds::lister::Lister);
 
 /// The kinds that are compiled in and asked for.
@@ -106,7 +101,11 @@ fn chosen(wanted: &Wanted, judge: &mut Judge) -> Vec<Box<dyn Cases>> {
     }
     #[cfg(feature = "runs")]
     if asked(Kind::Runs) {
-        all.push(Box::new(kinds::runs::Runs::new(judge, wanted.huge)));
+        all.push(Box::new(kinds::runs::Runs::new(judge)));
+    }
+    #[cfg(feature = "runs")]
+    if wanted.only == Some(Kind::Huge) {
+        all.push(Box::new(kinds::huge::Huge::new(judge)));
     }
     if let Some(path) = wanted.lister.clone().filter(|_| asked(Kind::Lister)) {
         all.push(Box::new(kinds::lister::Lister::new(judge, path)));

@@ -10,10 +10,17 @@ pub enum Kind {
     Sessions,
     Runs,
     Lister,
+    Huge,
 }
 
 impl Kind {
-    pub const ALL: [Kind; 4] = [Kind::Sheets, Kind::Sessions, Kind::Runs, Kind::Lister];
+    pub const ALL: [Kind; 5] = [
+        Kind::Sheets,
+        Kind::Sessions,
+        Kind::Runs,
+        Kind::Lister,
+        Kind::Huge,
+    ];
 
     pub fn name(self) -> &'static str {
         match self {
@@ -21,6 +28,7 @@ impl Kind {
             Kind::Sessions => "sessions",
             Kind::Runs => "runs",
             Kind::Lister => "lister",
+            Kind::Huge => "huge",
         }
     }
 }

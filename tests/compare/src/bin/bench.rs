@@ -226,15 +226,15 @@ fn minima<const COUNT: usize>(
 /// One line of the check: a sheet and the answer that it must get.
 #[cfg(feature = "sheets")]
 fn check_line(name: &str, sheet: &[u8], expected: (u64, u64), time: Duration) {
-    use compare::ffi::check_in_place;
+    use compare::ffi::in_place;
     eprintln!("timing {name}");
     let answer = expected.0 | expected.1 << 32;
-    assert_eq!(check_in_place(sheet), answer, "library: {name}");
+    assert_eq!(in_place::check(sheet), answer, "library: {name}");
     assert_eq!(plain::check::<false>(sheet), answer, "Rust: {name}");
     assert_eq!(plain::check::<true>(sheet), answer, "Rust: {name}");
     let [library, rust, rust_all] = minima(
         [
-            &|| check_in_place(black_box(sheet)),
+            &|| in_place::check(black_box(sheet)),
             &|| plain::check::<false>(black_box(sheet)),
             &|| plain::check::<true>(black_box(sheet)),
         ],

@@ -1,7 +1,6 @@
 //! The cases of the run and its record.
 
-use crate::huge::{Huge, LENGTH};
-use crate::judge::{Going, Judge, Stop};
+use crate::judge::{Going, Judge};
 use crate::make::{damage, schedules, sheets};
 use crate::model::run::record_length;
 use crate::model::sheet;
@@ -24,12 +23,10 @@ pub struct Runs {
     worked: Group,
     every_byte: Group,
     all_schedules: Group,
-    huge: Option<Group>,
 }
 
 impl Runs {
-    /// With `huge`, schedules of 2^32 bytes are tried too, which takes minutes.
-    pub fn new(judge: &mut Judge, huge: bool) -> Runs {
+    pub fn new(judge: &mut Judge) -> Runs {
         let mut group = |name| judge.group(Kind::Runs, name);
         Runs {
             exact: group("run, output of exact length"),
@@ -44,7 +41,6 @@ impl Runs {
             worked: group("run, the schedules of P1 to P9"),
             every_byte: group("run, each byte alone and behind a good one"),
             all_schedules: group("run, all schedules of N = 2 up to length 8"),
-            huge: huge.then(|| group("run, schedules of 2^32 bytes and one less")),
         }
     }
 
@@ -52,8 +48,7 @@ impl Runs {
     pub fn fixed(&self, judge: &mut Judge) -> Going<()> {
         self.worked_cases(judge)?;
         self.each_byte(judge)?;
-        self.each_schedule(judge)?;
-        self.huge.map_or(Ok(()), |group| huge(judge, group))
+        self.each_schedule(judge)
     }
 
     /// A slice of the random cases.
@@ -155,22 +150,4 @@ impl Runs {
         }
         Ok(())
     }
-}
-
-/// "In the host's run the byte at index 2^32 − 1 of a schedule, if there is one, counts as a bad
-/// byte (refusal 8)"; one byte less is obeyed.
-fn huge(judge: &mut Judge, group: Group) -> Going<()> {
-    let sheet = sheet::built(1, 3, 2).expect("the document's sheet");
-    let proposals: Vec<u8> = [500u32, 600].iter().flat_map(|p| p.to_be_bytes()).collect();
-    let steps = Huge::new(1).map_err(|why| {
-        println!("no memory for a schedule of 2^32 bytes: {why}");
-        Stop
-    })?;
-    let whole = steps.bytes();
-    let (number, position) = judge.run_huge(group, &sheet, &proposals, whole, 0)?;
-    let good = (number, position) == (8, u32::MAX);
-    judge.expect(good, group, "a schedule made for 8 at 2^32 - 1", &[])?;
-    let less = &whole[..LENGTH - 1];
-    let (number, _) = judge.run_huge(group, &sheet, &proposals, less, 20)?;
-    judge.expect(number == 0, group, "a schedule made to be obeyed", &[])
 }

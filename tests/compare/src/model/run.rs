@@ -1,6 +1,7 @@
 //! The run and its record, and what the lister prints (document 01, "The run and its
 //! record" and the lister's part of "Sessions worked through").
 
+use super::act;
 use super::session::{self, Party, Session, DECIDED, IDLE, RUNNING};
 use super::sheet::{self, refuse, refuse_at, Refusal, Sheet};
 
@@ -42,10 +43,10 @@ pub fn play(
     for byte in schedule {
         match entry(sheet.parties(), *byte) {
             Some(Entry::Step(i)) => {
-                session::act(&mut session, &sheet, i);
+                act::act(&mut session, &sheet, i);
             }
             Some(Entry::Stop(i)) => {
-                session::halt(&mut session, i);
+                act::halt(&mut session, i);
             }
             None => unreachable!("bad bytes were refused"),
         }

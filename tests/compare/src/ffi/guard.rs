@@ -1,0 +1,78 @@
+//! Buffers between guard bytes, at a changing alignment.
+
+use std::cell::Cell;
+
+/// How many guard bytes lie on each side of a buffer.
+const GUARD: usize = 48;
+
+/// Content between guard bytes.
+pub struct Guarded {
+    name: &'static str,
+    bytes: Vec<u8>,
+    at: usize,
+    length: usize,
+    salt: u8,
+}
+
+/// The guard byte at an index of the whole buffer.
+fn guard_byte(salt: u8, index: usize) -> u8 {
+    salt ^ (index as u8).wrapping_mul(37)
+}
+
+/// A number that changes with every buffer: the guards' content and the alignment follow it.
+fn next_turn() -> usize {
+    thread_local!(static TURN: Cell<usize> = const { Cell::new(0) });
+    TURN.with(|turn| {
+        turn.set(turn.get().wrapping_add(1));
+        turn.get()
+    })
+}
+
+impl Guarded {
+    pub fn new(name: &'static str, content: &[u8]) -> Guarded {
+        let turn = next_turn();
+        let at = GUARD + turn % 16;
+        let salt = (turn as u8).wrapping_mul(157);
+        let mut bytes: Vec<u8> = Vec::with_capacity(at + content.len() + GUARD);
+        bytes.extend((0..at).map(|index| guard_byte(salt, index)));
+        bytes.extend(content);
+        bytes.extend((0..GUARD).map(|index| guard_byte(salt, at + content.len() + index)));
+        Guarded {
+            name,
+            bytes,
+            at,
+            length: content.len(),
+            salt,
+        }
+    }
+
+    pub fn content(&self) -> &[u8] {
+        &self.bytes[self.at..self.at + self.length]
+    }
+
+    pub fn content_mut(&mut self) -> &mut [u8] {
+        &mut self.bytes[self.at..self.at + self.length]
+    }
+
+    /// What is wrong with the guards, and with the content if it was lent only for reading.
+    pub fn fault(&self, read_only: Option<&[u8]>) -> Option<String> {
+        let end = self.at + self.length;
+        let outside = (0..self.at).chain(end..self.bytes.len());
+        for index in outside {
+            if self.bytes[index] != guard_byte(self.salt, index) {
+                let offset = index as i64 - self.at as i64;
+                return Some(format!(
+                    "{}: the byte at offset {offset} outside the buffer was changed",
+                    self.name
+                ));
+            }
+        }
+        match read_only {
+            Some(before) if before != self.content() => Some(format!(
+                "{}: the buffer was lent for reading and was changed",
+                self.name
+            )),
+            _ => None,
+        }
+    }
+}

@@ -1,0 +1,192 @@
+//! The seven calls of the host interface behind safe wrappers. Every buffer that is lent lies
+//! between guard bytes, at a changing alignment; after the call the guards and everything lent
+//! only for reading must be unchanged.
+//!
+//! The library side is the archive of SEPALSAIL_LIB; with the feature `model-only` it is the
+//! model itself; with neither it is missing, and `LINKED` says so.
+
+// Without any of the calls there is nothing to guard.
+#![cfg_attr(
+    not(any(feature = "sheets", feature = "sessions", feature = "runs")),
+    allow(dead_code, unused_imports)
+)]
+
+mod guard;
+pub mod in_place;
+#[cfg(archive)]
+#[path = "archive.rs"]
+mod raw;
+#[cfg(not(archive))]
+#[path = "stand_in.rs"]
+mod raw;
+
+use crate::crash;
+use guard::Guarded;
+
+/// What stands on the library side.
+#[derive(Clone, Copy, Debug, PartialEq, Eq)]
+pub enum Linked {
+    Archive(&'static str),
+    Model,
+    Nothing,
+}
+
+#[cfg(archive)]
+pub const LINKED: Linked = Linked::Archive(env!("SEPALSAIL_ARCHIVE"));
+#[cfg(feature = "model-only")]
+pub const LINKED: Linked = Linked::Model;
+#[cfg(not(any(archive, feature = "model-only")))]
+pub const LINKED: Linked = Linked::Nothing;
+
+/// The library's answer, and what it did to memory that it should have left alone.
+#[derive(Clone, Debug, PartialEq, Eq)]
+pub struct Reply {
+    pub answer: u64,
+    pub fault: Option<String>,
+}
+
+/// A buffer lent to a call under a name.
+type Named<T> = (&'static str, T);
+
+/// Makes a call with guards around what it is lent: parts for reading, and one for writing
+/// (without a name, if there is none), which is given what the call wrote.
+fn guarded<const READ: usize>(
+    name: &'static str,
+    numbers: [u32; 3],
+    read: [Named<&[u8]>; READ],
+    (written_name, written): Named<&mut [u8]>,
+    call: impl FnOnce([&[u8]; READ], &mut [u8]) -> u64,
+) -> Reply {
+    let lent_read = read.map(|(name, part)| Guarded::new(name, part));
+    let mut lent = Guarded::new(written_name, written);
+    let mut parts = [crash::lent("", &[]); 4];
+    for (noted, (name, part)) in parts.iter_mut().zip(read) {
+        *noted = crash::lent(name, part);
+    }
+    parts[READ] = crash::lent(written_name, written);
+    crash::enter(name, numbers, parts);
+    let contents = std::array::from_fn(|at| lent_read[at].content());
+    let answer = call(contents, lent.content_mut());
+    crash::leave();
+    written.copy_from_slice(lent.content());
+    let fault = lent_read
+        .iter()
+        .zip(read)
+        .find_map(|(lent, (_, before))| lent.fault(Some(before)))
+        .or(lent.fault(None));
+    Reply { answer, fault }
+}
+
+/// The sheet check.
+#[cfg(feature = "sheets")]
+pub fn check(sheet: &[u8]) -> Reply {
+    let nothing = ("", &mut [][..]);
+    guarded(
+        "sepalsail_check",
+        [0; 3],
+        [("sheet", sheet)],
+        nothing,
+        // SAFETY: in all of these calls each pointer and length describe a slice.
+        |[sheet], _| unsafe { raw::sepalsail_check(sheet.as_ptr(), sheet.len()) },
+    )
+}
+
+/// The builder; `out` is given the library's output.
+#[cfg(feature = "sheets")]
+pub fn build(kind: u32, bound: u32, parties: u32, out: &mut [u8]) -> Reply {
+    guarded(
+        "sepalsail_build",
+        [kind, bound, parties],
+        [],
+        ("out", out),
+        |[], out| unsafe {
+            raw::sepalsail_build(kind, bound, parties, out.as_mut_ptr(), out.len())
+        },
+    )
+}
+
+/// The open call; `session` is given the library's session.
+#[cfg(feature = "sessions")]
+pub fn open(sheet: &[u8], proposals: &[u8], session: &mut [u8]) -> Reply {
+    guarded(
+        "sepalsail_open",
+        [0; 3],
+        [("sheet", sheet), ("proposals", proposals)],
+        ("session", session),
+        |[sheet, proposals], session| unsafe {
+            raw::sepalsail_open(
+                sheet.as_ptr(),
+                sheet.len(),
+                proposals.as_ptr(),
+                proposals.len(),
+                session.as_mut_ptr(),
+                session.len(),
+            )
+        },
+    )
+}
+
+/// The step call; `session` is given the library's session.
+#[cfg(feature = "sessions")]
+pub fn step(session: &mut [u8], party: u32) -> Reply {
+    guarded(
+        "sepalsail_step",
+        [party, 0, 0],
+        [],
+        ("session", session),
+        |[], session| unsafe { raw::sepalsail_step(session.as_mut_ptr(), session.len(), party) },
+    )
+}
+
+/// The stop call; `session` is given the library's session.
+#[cfg(feature = "sessions")]
+pub fn stop(session: &mut [u8], party: u32) -> Reply {
+    guarded(
+        "sepalsail_stop",
+        [party, 0, 0],
+        [],
+        ("session", session),
+        |[], session| unsafe { raw::sepalsail_stop(session.as_mut_ptr(), session.len(), party) },
+    )
+}
+
+/// The live call.
+#[cfg(feature = "sessions")]
+pub fn live(session: &[u8]) -> Reply {
+    let nothing = ("", &mut [][..]);
+    guarded(
+        "sepalsail_live",
+        [0; 3],
+        [("session", session)],
+        nothing,
+        |[session], _| unsafe { raw::sepalsail_live(session.as_ptr(), session.len()) },
+    )
+}
+
+/// The run; `out` is given the library's output.
+#[cfg(feature = "runs")]
+pub fn run(sheet: &[u8], proposals: &[u8], schedule: &[u8], out: &mut [u8]) -> Reply {
+    guarded(
+        "sepalsail_run",
+        [0; 3],
+        [
+            ("sheet", sheet),
+            ("proposals", proposals),
+            ("schedule", schedule),
+        ],
+        ("out", out),
+        |[sheet, proposals, schedule], out| in_place::run(sheet, proposals, schedule, out),
+    )
+}
+
+/// The run with a schedule that is lent as it lies (for one too large to copy).
+#[cfg(feature = "runs")]
+pub fn run_uncopied(sheet: &[u8], proposals: &[u8], schedule: &[u8], out: &mut [u8]) -> Reply {
+    guarded(
+        "sepalsail_run with a schedule too large to print",
+        [0; 3],
+        [("sheet", sheet), ("proposals", proposals)],
+        ("out", out),
+        |[sheet, proposals], out| in_place::run(sheet, proposals, schedule, out),
+    )
+}
