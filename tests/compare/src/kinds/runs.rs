@@ -1,8 +1,10 @@
 //! The cases of the run and its record.
 
 use crate::judge::{Going, Judge};
-use crate::make::{damage, schedules, sheets};
+use crate::make::{damage, schedules, sessions, sheets};
+use crate::model::layout::party_at;
 use crate::model::run::record_length;
+use crate::model::session::DECIDED;
 use crate::model::sheet;
 use crate::tally::{Group, Kind};
 
@@ -23,6 +25,9 @@ pub struct Runs {
     worked: Group,
     every_byte: Group,
     all_schedules: Group,
+    all_acting: Group,
+    far_byte: Group,
+    long: Group,
 }
 
 impl Runs {
@@ -41,6 +46,9 @@ impl Runs {
             worked: group("run, the schedules of P1 to P9"),
             every_byte: group("run, each byte alone and behind a good one"),
             all_schedules: group("run, all schedules of N = 2 up to length 8"),
+            all_acting: group("run, all schedules of N = 2 that act, to the end"),
+            far_byte: group("run, bad byte around 2^8, 2^16 and 2^24"),
+            long: group("run, schedules of up to 260,000 bytes"),
         }
     }
 
@@ -48,7 +56,9 @@ impl Runs {
     pub fn fixed(&self, judge: &mut Judge) -> Going<()> {
         self.worked_cases(judge)?;
         self.each_byte(judge)?;
-        self.each_schedule(judge)
+        self.each_schedule(judge)?;
+        self.each_acting_schedule(judge)?;
+        self.far_bytes(judge)
     }
 
     /// A slice of the random cases.
@@ -88,6 +98,11 @@ impl Runs {
         judge.run(self.several, &damaged, &wrong, &bad, 0)?;
         judge.run(self.several, &good, &wrong, &bad, exact - 1)?;
         judge.run(self.several, &damaged, &right, &bad, exact)?;
+        // Lengths of all sizes: each number of binary digits is as likely as another.
+        let digits = judge.rng.from_to(0, 18);
+        let length = judge.rng.below(1 << digits);
+        let long = schedules::schedule(&mut judge.rng, parties, length);
+        judge.run(self.long, &good, &right, &long, exact)?;
         Ok(())
     }
 
@@ -138,8 +153,7 @@ impl Runs {
 
     /// All schedules of N = 2 up to length 8.
     fn each_schedule(&self, judge: &mut Judge) -> Going<()> {
-        let sheet = sheet::built(1, 3, 2).expect("the document's sheet");
-        let proposals: Vec<u8> = [500u32, 600].iter().flat_map(|p| p.to_be_bytes()).collect();
+        let (sheet, proposals) = two_parties();
         for length in 0..=8 {
             for number in 0..1usize << (2 * length) {
                 let schedule: Vec<u8> = (0..length)
@@ -150,4 +164,62 @@ impl Runs {
         }
         Ok(())
     }
+
+    /// All schedules of N = 2 in which every entry changes the session, one entry longer each
+    /// time, until both parties have decided or stopped.
+    fn each_acting_schedule(&self, judge: &mut Judge) -> Going<()> {
+        let (sheet, proposals) = two_parties();
+        let mut waiting = vec![(Vec::new(), sessions::opened(&sheet, &proposals))];
+        let (mut ended, mut longest) = (0, 0);
+        while let Some((schedule, session)) = waiting.pop() {
+            judge.run(self.all_acting, &sheet, &proposals, &schedule, 18)?;
+            let before = waiting.len();
+            for byte in [1, 2, 129, 130] {
+                let next = sessions::after(&session, byte);
+                if next != session {
+                    waiting.push(([&schedule[..], &[byte]].concat(), next));
+                }
+            }
+            if waiting.len() == before {
+                let done = [1, 2].map(|i| session[party_at(i)] >= DECIDED);
+                let what = "a schedule that nothing can follow";
+                judge.expect(done == [true; 2], self.all_acting, what, &[])?;
+                ended += 1;
+                longest = longest.max(schedule.len());
+            }
+        }
+        let line = format!("N = 2: {ended} schedules that act to the end, longest {longest}");
+        judge.tally.note(Kind::Runs, line);
+        Ok(())
+    }
+
+    /// A bad byte at indexes whose numbers of bytes differ, and the same schedule without it.
+    fn far_bytes(&self, judge: &mut Judge) -> Going<()> {
+        let (sheet, proposals) = two_parties();
+        for at in [
+            255,
+            256,
+            257,
+            65_535,
+            65_536,
+            65_537,
+            1 << 24,
+            (1 << 24) + 1,
+        ] {
+            let mut schedule = schedules::schedule(&mut judge.rng, 2, at + 1);
+            judge.run(self.far_byte, &sheet, &proposals, &schedule, 18)?;
+            schedule[at] = schedules::bad_byte(&mut judge.rng, 2);
+            let given = judge.run(self.far_byte, &sheet, &proposals, &schedule, 18)?;
+            let what = "a bad byte far away";
+            judge.expect(given == (8, at as u32), self.far_byte, what, &[])?;
+        }
+        Ok(())
+    }
+}
+
+/// The document's sheet for N = 2, and its proposals.
+fn two_parties() -> (Vec<u8>, Vec<u8>) {
+    let sheet = sheet::built(1, 3, 2).expect("the document's sheet");
+    let proposals = [500u32, 600].iter().flat_map(|p| p.to_be_bytes()).collect();
+    (sheet, proposals)
 }

@@ -13,6 +13,17 @@ pub fn opened(sheet: &[u8], proposals: &[u8]) -> Vec<u8> {
     bytes
 }
 
+/// The session after one entry of a schedule, by the model.
+pub fn after(session: &[u8], byte: u8) -> Vec<u8> {
+    let mut next = session.to_vec();
+    if byte < 128 {
+        layout::host_step(&mut next, u32::from(byte));
+    } else {
+        layout::host_stop(&mut next, u32::from(byte - 128));
+    }
+    next
+}
+
 /// A well-formed session with random entries; most of them no run reaches.
 pub fn odd(rng: &mut Rng, sheet_bytes: &[u8], proposals: &[u8]) -> Vec<u8> {
     let sheet = sheet::read(sheet_bytes).expect("the sheet is good");

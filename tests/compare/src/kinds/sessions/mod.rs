@@ -5,7 +5,7 @@ mod walk;
 
 use crate::judge::{Going, Judge};
 use crate::make::{damage, schedules, sessions, sheets};
-use crate::model::layout::{self, SESSION};
+use crate::model::layout::SESSION;
 use crate::model::sheet;
 use crate::tally::{Group, Kind};
 
@@ -230,11 +230,7 @@ fn reached(judge: &mut Judge, sheet: &[u8], proposals: &[u8], most: usize) -> Ve
     let parties = usize::from(session[5]);
     let length = judge.rng.from_to(0, most);
     for byte in schedules::schedule(&mut judge.rng, parties, length) {
-        if byte < 128 {
-            layout::host_step(&mut session, u32::from(byte));
-        } else {
-            layout::host_stop(&mut session, u32::from(byte - 128));
-        }
+        session = sessions::after(&session, byte);
     }
     session
 }
