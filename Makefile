@@ -4,7 +4,7 @@ CC ?= cc
 CFLAGS ?= -O2 -std=c99 -Wall -Wextra -Wpedantic -Werror
 LIB = target/staticlib/libhost.a
 
-.PHONY: run test test-long bench lib stack clean
+.PHONY: run test test-long test-huge bench lib stack clean
 
 # party 2 takes two steps, then party 1 seven: party 1 decides what party 2 proposed
 run: target/bin/lister target/examples/sheet target/examples/agree
@@ -22,6 +22,10 @@ test:
 # FOR=seconds and SEED=number choose how long and with which inputs the comparison runs
 test-long: $(LIB)
 	@bash tests/compare.sh --seconds $${FOR:-600} --seed $${SEED:-1}
+
+# runs with schedules of 2^32 bytes, one less and some more (some minutes)
+test-huge: $(LIB)
+	@bash tests/compare.sh --only huge --seconds 0 --seed $${SEED:-1}
 
 bench: $(LIB)
 	@bash tests/bench.sh
