@@ -1,7 +1,7 @@
 //! The bench: in one process, the library beside plain fast Rust of the same rules. Each time is
 //! the smallest seen over interleaved repetitions, each ratio is library/Rust.
 //!
-//!     bench [--seconds N]
+//!     bench [--seconds N] [--only check|run|calls]
 //!
 //! N is the time spent on each line (default 2).
 
@@ -16,19 +16,38 @@ mod plain_run;
 mod run;
 mod timing;
 
+/// A part of the bench prints its lines.
+type Lines = fn(&mut timing::Bench);
+
+const PARTS: [(&str, Lines); 3] = [
+    ("check", check::lines),
+    ("run", run::lines),
+    ("calls", calls::lines),
+];
+
+/// The time for each line and the only part to be run, from the command line.
+fn wanted() -> Option<(Duration, Option<String>)> {
+    let mut time = Duration::from_secs(2);
+    let mut only = None;
+    let mut words = std::env::args().skip(1);
+    while let Some(word) = words.next() {
+        let value = words.next()?;
+        match word.as_str() {
+            "--seconds" => time = Duration::try_from_secs_f64(value.parse().ok()?).ok()?,
+            "--only" if PARTS.iter().any(|(name, _)| *name == value) => only = Some(value),
+            _ => return None,
+        }
+    }
+    Some((time, only))
+}
+
 fn main() -> ExitCode {
     if LINKED == Linked::Nothing {
         println!("no library: build with SEPALSAIL_LIB or with the feature model-only");
         return ExitCode::from(2);
     }
-    let words: Vec<String> = std::env::args().skip(1).collect();
-    let seconds = match words.as_slice() {
-        [] => Some(2.0),
-        [word, value] if word == "--seconds" => value.parse().ok(),
-        _ => None,
-    };
-    let Some(time) = seconds.and_then(|seconds| Duration::try_from_secs_f64(seconds).ok()) else {
-        eprintln!("bench [--seconds N]");
+    let Some((time, only)) = wanted() else {
+        eprintln!("bench [--seconds N] [--only check|run|calls]");
         return ExitCode::from(2);
     };
     println!("library side: {LINKED:?}");
@@ -36,9 +55,11 @@ fn main() -> ExitCode {
     plain_check::verify(500);
     plain_run::verify(500);
     let mut bench = timing::Bench::new(time);
-        check::lines(&mut bench);
-        run::lines(&mut bench);
-        calls::lines(&mut bench);
+    for (name, lines) in PARTS {
+        if only.as_deref().is_none_or(|only| only == name) {
+            lines(&mut bench);
+        }
+    }
     ExitCode::SUCCESS
 }
 

@@ -138,6 +138,9 @@ fn long_lines(bench: &mut Bench) {
         .map(|_| party(&mut rng) + if rng.once_in(2) { 128 } else { 0 })
         .collect();
     long_line(bench, "random steps and stops, half of each", &stops);
+    let mut sorted = stops;
+    sorted.sort_by_key(|byte| *byte >= 128);
+    long_line(bench, "the same, all steps before all stops", &sorted);
     let (sheet, proposals) = inputs();
     let after: Vec<u8> = (0..LONG)
         .map(|index| (index * PARTIES / LONG) as u8 + 1)
@@ -159,7 +162,9 @@ fn acting_lines(bench: &mut Bench) {
     );
     println!("\nRuns of schedules until all have decided, N = 16, kind 2, A = 31, ns an act.");
     println!("First with the sheet check in it, then with the check's time taken off both sides:");
-    println!("the check alone takes {check:.0} ns in the library, {rust_check:.0} ns in Rust.");
+    println!("the check alone takes {check:.0} ns in the library, {rust_check:.0} ns in Rust;");
+    let (library, rust, _) = times(bench, &[]);
+    println!("a run of no bytes {library:.0} ns in the library, {rust:.0} ns in Rust (check, opening, record).");
     println!(
         "{:<24} {:>6} {:>8} {:>8} {:>8} {:>6} {:>8} {:>8} {:>6}",
         "", "bytes", "acting", "library", "Rust", "ratio", "library", "Rust", "ratio"
