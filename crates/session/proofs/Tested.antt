@@ -13,6 +13,14 @@ module _ {a b : Bool} (e : a ≡ b) where
   pub stopped : not a ≡ true → b ≡ false
   stopped n = sym e ∙ not-true a n
 
+-- a test behind another: asked where that is passed, and else that settles the answer
+module _ {a b : Bool} (e : a ≡ b) where
+  pub and-then : {x c : Bool} → a ≡ true → x ≡ c → x ≡ (b && c)
+  and-then t f = rw (sym e ∙ t) f
+
+  pub and-else : {x : Bool} (c : Bool) → a ≡ false → x ≡ a → x ≡ (b && c)
+  and-else c l f = rw (sym e ∙ l) (f ∙ l)
+
 pub both : {a b : Bool} → a ≡ true → b ≡ true → (a && b) ≡ true
 both e f = rw (e, f)
 

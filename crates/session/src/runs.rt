@@ -16,16 +16,13 @@ use crate::state::Party;
 use sheet::Refusal;
 use sheet::Verdict;
 
-// Whether a schedule byte is a step or a stop of one of n parties.
+// Whether a schedule byte is a step or a stop of one of n parties, by its party alone: no branch on which of the two it is.
 fn byte_ok(n: u8, b: u8) -> bool
     requires { ⌜ n ≤ 16 ⌝ }
     ensures { λ r. ⌜ r ≡ byteOk n b ⌝ }
 {
-    match b {
-        1..=127 => b <= n,
-        129..=255 => b <= 128 + n,
-        _ => false,
-    }
+    let i = b % 128;
+    1 <= i && i <= n
 }
 
 // Whether every byte is good: one pass with no early exit.
