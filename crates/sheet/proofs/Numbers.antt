@@ -1,15 +1,15 @@
 -- A number is read from the bytes at its place, one by one, and one that was written is read back, by inductions over how many; a whole row is taken.
 use Prim.Native.Nat.{ℕ, zero, suc, _+_, _*_, _/_, _%_, _^_, _≤_, _<_}
 use mathlib.Core.Path.{_≡_, refl, sym, ap, ap₂, _∙_}
-use mathlib.Core.List.{List, _∷_, map}
+use mathlib.Core.List.{List, [], _∷_, _++_, map}
 use native.Mathlib.Nat.{add-suc, add-zero, zero-add, add-assoc, add-mul, mul-assoc, mul-one, zero-mul, pow-succ', one-le-pow}
 use native.Mathlib.Nat.{mod-one, mod-eq-of-lt, mul-le-mul, mul-le-mul-right, lt-of-lt-of-le}
 use native.Mathlib.Numerals.{add-one}
 use native.Mathlib.Omega.{arith}
 use borrow.Author.Tests.{lt-ltb, le-leb}
 use lib.Arith.{mod-mul}
-use lib.ListN.{length, getD, take, drop}
-use lib.Seq.{drop-cons, drop-drop}
+use lib.ListN.{length, getD, take, drop, length-drop}
+use lib.Seq.{drop-cons, drop-drop, take-add, length-take-le}
 use Rattle.sheet.specs.Lists.{from}
 use Rattle.sheet.specs.Bytes.{bigFrom, num, bytesOf}
 use Rattle.sheet.specs.Rows.{rowAt, taken}
@@ -28,6 +28,31 @@ taken-from s place j (suc n) h =
 pub num-read : (s : List ℕ) (place n : ℕ) → place + n ≤ length s → num s place n ≡ bigFrom 0 (map (λ k. getD s (place + k) 0) (from 0 n))
 num-read s place n h =
     ap (λ (i : ℕ). bigFrom 0 (take n (drop i s))) (sym (add-zero place)) ∙ ap (bigFrom 0) (taken-from s place 0 n (omega arith))
+
+-- bytes after those of acc
+big-after : (acc : ℕ) (xs : List ℕ) → bigFrom acc xs ≡ acc * 256 ^ length xs + bigFrom 0 xs
+big-after acc [] = omega arith
+big-after acc (x ∷ xs) =
+    let p = 256 ^ length xs in
+    let more = big-after (acc * 256 + x) xs in
+    let first = big-after (0 * 256 + x) xs in
+    let weights : (acc * 256 + x) * p ≡ acc * (256 * p) + x * p = add-mul (acc * 256) x p ∙ ap (λ (z : ℕ). z + x * p) (mul-assoc acc 256 p) in
+    let alone : (0 * 256 + x) * p ≡ x * p = ap (λ (z : ℕ). z * p) (zero-add x) in
+    rw pow-succ' (omega arith)
+
+big-append : (acc : ℕ) (xs ys : List ℕ) → bigFrom acc (xs ++ ys) ≡ bigFrom (bigFrom acc xs) ys
+big-append acc [] ys = refl
+big-append acc (x ∷ xs) ys = big-append (acc * 256 + x) xs ys
+
+-- a number in two parts: the first by the weight of the second
+pub num-parts : (s : List ℕ) (place a b : ℕ) → place + a + b ≤ length s → num s place (a + b) ≡ num s place a * 256 ^ b + num s (place + a) b
+num-parts s place a b h =
+    let first = take a (drop place s) in
+    let second = take b (drop (place + a) s) in
+    ap (bigFrom 0) (take-add a b (drop place s) ∙ ap (λ (l : List ℕ). first ++ take b l) (drop-drop a place s))
+    ∙ big-append 0 first second
+    ∙ big-after (bigFrom 0 first) second
+    ∙ ap (λ (k : ℕ). bigFrom 0 first * 256 ^ k + bigFrom 0 second) (length-take-le b (drop (place + a) s) (simp length-drop (omega arith)))
 
 -- a number of what is left from a place on
 pub num-drop : (s : List ℕ) (place k n : ℕ) → num (drop place s) k n ≡ num s (place + k) n

@@ -34,17 +34,19 @@ pub(crate) fn two(s: &[u8], at: usize) -> u16
     middle(s[at]) * 256 + middle(s[at + 1])
 }
 
+// The number of four bytes.
+fn four(s: &[u8], at: usize) -> u64
+    requires { ⌜ at + 4 ≤ length (now s) ⌝ }
+    ensures { λ r. ⌜ r ≡ num (now (s .entry)) at 4 ⌝ }
+    ensures { λ r. ⌜ r < 4294967296 ⌝ }
+{
+    two(s, at) as u64 * 65536 + two(s, at + 2) as u64
+}
+
 // The number of eight bytes.
 pub(crate) fn eight(s: &[u8], at: usize) -> u64
     requires { ⌜ at + 8 ≤ length (now s) ⌝ }
     ensures { λ r. ⌜ r ≡ num (now (s .entry)) at 8 ⌝ }
 {
-    wide(s[at]) * 72057594037927936
-        + wide(s[at + 1]) * 281474976710656
-        + wide(s[at + 2]) * 1099511627776
-        + wide(s[at + 3]) * 4294967296
-        + wide(s[at + 4]) * 16777216
-        + wide(s[at + 5]) * 65536
-        + wide(s[at + 6]) * 256
-        + wide(s[at + 7])
+    four(s, at) * 4294967296 + four(s, at + 4)
 }

@@ -1,29 +1,20 @@
--- The sum of the eight bytes by their weights is the number that the law reads them to.
-use native.Mathlib.Nat.{add-zero}
+-- The number is that of its two halves, the first by its weight.
 use native.Mathlib.Omega.{arith}
 use borrow.Author.Needs.{needs}
 use denote.Ref.{now}
-use Rattle.sheet.proofs.Numbers.{num-read}
+use Rattle.sheet.proofs.Numbers.{num-parts}
 use Rattle.sheet.proofs.bytes.eight.Statement.{statement}
 use Rattle.sheet.proofs.bytes.eight.Tie as tie
 
 returns : tie.Need-returns
 returns c =
-    let half = c .before .before .before .before .before .before .before .before in
-    let start = half .before .before .before .before .before .before .before .before .before in
-    rw (num-read (now (start .args .s)) (start .args .at) 8 (start .pre), add-zero) (omega arith)
+    let start = c .before .before .before in
+    let parts = num-parts (now (start .args .s)) (start .args .at) 4 4 (omega arith) in
+    omega arith
 
--- each byte is in the slice, its product fits, and so does the sum so far
 pub eight-spec : {M : Type 1} → statement M
 eight-spec =
     tie.close
     (tie.spec
-    (λ c. search needs) (λ c κs. search needs) (λ c. search needs)
-    (λ c. search needs) (λ c. search needs) (λ c κs. search needs) (λ c. search needs) (λ c. search needs)
-    (λ c. search needs) (λ c. search needs) (λ c κs. search needs) (λ c. search needs) (λ c. search needs)
-    (λ c. search needs) (λ c. search needs) (λ c κs. search needs) (λ c. search needs) (λ c. search needs)
-    (λ c. search needs) (λ c. search needs) (λ c κs. search needs) (λ c. search needs) (λ c. search needs)
-    (λ c. search needs) (λ c. search needs) (λ c κs. search needs) (λ c. search needs) (λ c. search needs)
-    (λ c. search needs) (λ c. search needs) (λ c κs. search needs) (λ c. search needs) (λ c. search needs)
-    (λ c. search needs) (λ c. search needs) (λ c κs. search needs) (λ c. search needs)
+    (λ c κs. search needs) (λ c. search needs) (λ c. search needs) (λ c κs. search needs) (λ c. search needs)
     returns)
