@@ -2,10 +2,11 @@
 ghost use mathlib.Core.Path.{_≡_};
 ghost use mathlib.Core.List.{_++_};
 ghost use Prim.Native.Nat.{_+_, _*_, _^_, _≤_, _<_};
-ghost use lib.ListN.{length, drop};
+ghost use lib.ListN.{length, take, drop};
 ghost use lib.Dec.{T};
 ghost use Rattle.sheet.specs.Rows.{sheetLength, rowNumber};
 ghost use Rattle.sheet.specs.Check.{numbersOk};
+ghost use Rattle.sheet.specs.Bytes.{bytesOf};
 ghost use Rattle.sheet.specs.Build.{given, rowBytes, headerBytes, builtUnits, row2, rows1, builtRow, builtSheet};
 ghost use Rattle.sheet.specs.Words.{IsSlot};
 ghost use Rattle.sheet.specs.Given.{Given};
@@ -144,14 +145,20 @@ fn built_row(kind: u32, bound: u32, parties: u32, p: Slot, k: usize) -> Row
     }
 }
 
-// A row's 14 bytes, at the start of what is lent.
-fn put_row(o: &mut [u8], w: Row)
-    requires { ⌜ 14 ≤ length (now o) ⌝ }
-    ensures { λ _. ⌜ now (o .exit) ≡ rowBytes w ++ drop 14 (now (o .entry)) ⌝ }
+// A number's two bytes, at a place.
+fn put_two(o: &mut [u8], at: usize, x: u16)
+    requires { ⌜ at + 2 ≤ length (now o) ⌝ }
+    ensures { λ _. ⌜ now (o .exit) ≡ take at (now (o .entry)) ++ (bytesOf 2 x ++ drop (at + 2) (now (o .entry))) ⌝ }
 {
-    let m = w.mask;
-    o[0] = (w.start / 256 % 256) as u8;
-    o[1] = (w.start % 256) as u8;
+    o[at] = (x / 256 % 256) as u8;
+    o[at + 1] = (x % 256) as u8;
+}
+
+// A mask's eight bytes, in their place of a row.
+fn put_mask(o: &mut [u8], m: u64)
+    requires { ⌜ 10 ≤ length (now o) ⌝ }
+    ensures { λ _. ⌜ now (o .exit) ≡ take 2 (now (o .entry)) ++ (bytesOf 8 m ++ drop 10 (now (o .entry))) ⌝ }
+{
     o[2] = (m / 72057594037927936 % 256) as u8;
     o[3] = (m / 281474976710656 % 256) as u8;
     o[4] = (m / 1099511627776 % 256) as u8;
@@ -160,10 +167,17 @@ fn put_row(o: &mut [u8], w: Row)
     o[7] = (m / 65536 % 256) as u8;
     o[8] = (m / 256 % 256) as u8;
     o[9] = (m % 256) as u8;
-    o[10] = (w.own / 256 % 256) as u8;
-    o[11] = (w.own % 256) as u8;
-    o[12] = (w.pair / 256 % 256) as u8;
-    o[13] = (w.pair % 256) as u8;
+}
+
+// A row's 14 bytes, at the start of what is lent.
+fn put_row(o: &mut [u8], w: Row)
+    requires { ⌜ 14 ≤ length (now o) ⌝ }
+    ensures { λ _. ⌜ now (o .exit) ≡ rowBytes w ++ drop 14 (now (o .entry)) ⌝ }
+{
+    put_two(o, 0, w.start);
+    put_mask(o, w.mask);
+    put_two(o, 10, w.own);
+    put_two(o, 12, w.pair);
 }
 
 // The header's 8 bytes.
@@ -171,16 +185,12 @@ fn put_header(o: &mut [u8], kind: u32, bound: u32, parties: u32)
     requires { ⌜ (Given kind bound parties) × (8 ≤ length (now o)) ⌝ }
     ensures { λ _. ⌜ now (o .exit) ≡ headerBytes kind bound parties (builtUnits kind bound parties) ++ drop 8 (now (o .entry)) ⌝ }
 {
-    let whole = rows::sheet_length(parties as usize);
-    let units = built_units(kind, bound, parties);
-    o[0] = (whole / 256 % 256) as u8;
-    o[1] = (whole % 256) as u8;
+    put_two(o, 0, rows::sheet_length(parties as usize) as u16);
     o[2] = 1;
     o[3] = kind as u8;
     o[4] = bound as u8;
     o[5] = parties as u8;
-    o[6] = (units / 256 % 256) as u8;
-    o[7] = (units % 256) as u8;
+    put_two(o, 6, built_units(kind, bound, parties));
 }
 
 // The whole sheet; the bytes past it stay.

@@ -1,136 +1,43 @@
--- The 14 stores are one run from the start on, of the bytes that the definition lists; the last of a number is divided by 1.
-use native.Mathlib.Nat.{div-one}
-use native.Mathlib.Omega.{arith}
+-- The four parts stand one behind the other: each leaves what is before it, and past the row all is as it was.
+use mathlib.Core.Path.{_≡_, ap, _∙_}
+use mathlib.Core.List.{List, _++_}
+use Prim.Native.Nat.{ℕ}
 use borrow.Author.Needs.{needs}
-use lib.ListN.{length-set}
-use lib.Seq.{sets-eq}
+use lib.ListN.{take, drop}
+use lib.Seq.{drop-drop}
+use Rattle.sheet.specs.Bytes.{bytesOf}
 use Rattle.sheet.specs.Build.{rowBytes}
+use Rattle.sheet.specs.declared.rows.Row.{Row}
 use Rattle.sheet.proofs.building.put_row.Statement.{statement}
 use Rattle.sheet.proofs.building.put_row.Tie as tie
 
-cast-o : tie.Need-cast-o
-cast-o c = search needs
-
-slice-write-o : tie.Need-slice-write-o
-slice-write-o c = search needs
-
-cast-o-2 : tie.Need-cast-o-2
-cast-o-2 c = search needs
-
-slice-write-o-2 : tie.Need-slice-write-o-2
-slice-write-o-2 c = simp length-set (omega arith)
-
-cast-o-3 : tie.Need-cast-o-3
-cast-o-3 c = search needs
-
-slice-write-o-3 : tie.Need-slice-write-o-3
-slice-write-o-3 c = simp length-set (omega arith)
-
-cast-o-4 : tie.Need-cast-o-4
-cast-o-4 c = search needs
-
-slice-write-o-4 : tie.Need-slice-write-o-4
-slice-write-o-4 c = simp length-set (omega arith)
-
-cast-o-5 : tie.Need-cast-o-5
-cast-o-5 c = search needs
-
-slice-write-o-5 : tie.Need-slice-write-o-5
-slice-write-o-5 c = simp length-set (omega arith)
-
-cast-o-6 : tie.Need-cast-o-6
-cast-o-6 c = search needs
-
-slice-write-o-6 : tie.Need-slice-write-o-6
-slice-write-o-6 c = simp length-set (omega arith)
-
-cast-o-7 : tie.Need-cast-o-7
-cast-o-7 c = search needs
-
-slice-write-o-7 : tie.Need-slice-write-o-7
-slice-write-o-7 c = simp length-set (omega arith)
-
-cast-o-8 : tie.Need-cast-o-8
-cast-o-8 c = search needs
-
-slice-write-o-8 : tie.Need-slice-write-o-8
-slice-write-o-8 c = simp length-set (omega arith)
-
-cast-o-9 : tie.Need-cast-o-9
-cast-o-9 c = search needs
-
-slice-write-o-9 : tie.Need-slice-write-o-9
-slice-write-o-9 c = simp length-set (omega arith)
-
-cast-o-10 : tie.Need-cast-o-10
-cast-o-10 c = search needs
-
-slice-write-o-10 : tie.Need-slice-write-o-10
-slice-write-o-10 c = simp length-set (omega arith)
-
-cast-o-11 : tie.Need-cast-o-11
-cast-o-11 c = search needs
-
-slice-write-o-11 : tie.Need-slice-write-o-11
-slice-write-o-11 c = simp length-set (omega arith)
-
-cast-o-12 : tie.Need-cast-o-12
-cast-o-12 c = search needs
-
-slice-write-o-12 : tie.Need-slice-write-o-12
-slice-write-o-12 c = simp length-set (omega arith)
-
-cast-o-13 : tie.Need-cast-o-13
-cast-o-13 c = search needs
-
-slice-write-o-13 : tie.Need-slice-write-o-13
-slice-write-o-13 c = simp length-set (omega arith)
-
-cast-o-14 : tie.Need-cast-o-14
-cast-o-14 c = search needs
-
-slice-write-o-14 : tie.Need-slice-write-o-14
-slice-write-o-14 c = simp length-set (omega arith)
-
-same-length : tie.Need-same-length
-same-length c = simp length-set
+four-parts : (w : Row) (o : List ℕ) {a b c d : List ℕ}
+    → a ≡ take 0 o ++ (bytesOf 2 (w .start) ++ drop 2 o)
+    → b ≡ take 2 a ++ (bytesOf 8 (w .mask) ++ drop 10 a)
+    → c ≡ take 10 b ++ (bytesOf 2 (w .own) ++ drop 12 b)
+    → d ≡ take 12 c ++ (bytesOf 2 (w .pair) ++ drop 14 c)
+    → d ≡ rowBytes w ++ drop 14 o
+four-parts w o e f g h =
+    let mask = f ∙ ap (λ (l : List ℕ). take 2 l ++ (bytesOf 8 (w .mask) ++ drop 10 l)) e in
+    let own = g ∙ ap (λ (l : List ℕ). take 10 l ++ (bytesOf 2 (w .own) ++ drop 12 l)) mask in
+    let past : drop 2 (drop 2 (drop 8 (drop 2 o))) ≡ drop 14 o = simp drop-drop in
+    h
+    ∙ ap (λ (l : List ℕ). take 12 l ++ (bytesOf 2 (w .pair) ++ drop 14 l)) own
+    ∙ ap (λ (l : List ℕ). rowBytes w ++ l) past
 
 returns : tie.Need-returns
 returns c =
-    let args = c .before .before .before .before .before .before .args in
-    simp div-one (simp div-one at (sets-eq (rowBytes (args .w)) (args .o .now) 0 (omega arith)))
+    let pair = c .before .before in
+    let own = pair .before .before .before .before in
+    let mask = own .before .before .before .before in
+    let start = mask .before .before .before .before in
+    let args = start .before .before .before .args in
+    four-parts (args .w) (args .o .now) (start .put-two .ensures) (mask .put-mask .ensures) (own .put-two2 .ensures) (pair .put-two3 .ensures)
 
 pub put-row-spec : {M : Type 1} → statement M
 put-row-spec =
     tie.close
     (tie.spec
-    cast-o
-    slice-write-o
-    cast-o-2
-    slice-write-o-2
-    cast-o-3
-    slice-write-o-3
-    cast-o-4
-    slice-write-o-4
-    cast-o-5
-    slice-write-o-5
-    cast-o-6
-    slice-write-o-6
-    cast-o-7
-    slice-write-o-7
-    cast-o-8
-    slice-write-o-8
-    cast-o-9
-    slice-write-o-9
-    cast-o-10
-    slice-write-o-10
-    cast-o-11
-    slice-write-o-11
-    cast-o-12
-    slice-write-o-12
-    cast-o-13
-    slice-write-o-13
-    cast-o-14
-    slice-write-o-14
-    same-length
+    (λ c κs. search needs) (λ c κs. search needs) (λ c κs. search needs) (λ c κs. search needs)
+    (λ c. search needs)
     returns)
