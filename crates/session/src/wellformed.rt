@@ -232,32 +232,14 @@ fn decision_ok(p: Party) -> bool
 fn status_ok(p: Party) -> bool
     ensures { λ r. ⌜ r ≡ statusOk p ⌝ }
 {
-    if !is_same(p.status == 2, p.place == 8) {
-        return false;
-    }
-    if !idle_ok(p) {
-        return false;
-    }
-    if !unstarted_ok(p) {
-        return false;
-    }
-    decision_ok(p)
+    is_same(p.status == 2, p.place == 8) && idle_ok(p) && unstarted_ok(p) && decision_ok(p)
 }
 
 // The numbers of a party alone.
 fn ranges_ok(n: u8, p: Party) -> bool
     ensures { λ r. ⌜ r ≡ rangesOk n p ⌝ }
 {
-    if 3 < p.status {
-        return false;
-    }
-    if 8 < p.place {
-        return false;
-    }
-    if !is_within(1, n, p.candidate) {
-        return false;
-    }
-    p.steps <= 1000
+    p.status <= 3 && p.place <= 8 && is_within(1, n, p.candidate) && p.steps <= 1000
 }
 
 // Party i of n.
@@ -265,47 +247,25 @@ fn party_ok(n: u8, published: &[u8; 256], i: u8, p: Party) -> bool
     requires { ⌜ n ≤ 16 ⌝ }
     ensures { λ r. ⌜ r ≡ partyOk n (now (published .entry)) i p ⌝ }
 {
-    if !ranges_ok(n, p) {
-        return false;
-    }
-    if !round_ok(n, i, p) {
-        return false;
-    }
-    if !scan_ok(p) {
-        return false;
-    }
-    if !lower_ok(i, p) {
-        return false;
-    }
-    if !top_ok(published, i, p) {
-        return false;
-    }
-    status_ok(p)
+    ranges_ok(n, p)
+        && round_ok(n, i, p)
+        && scan_ok(p)
+        && lower_ok(i, p)
+        && top_ok(published, i, p)
+        && status_ok(p)
 }
 
 // An entry past the parties.
 fn unused_ok(p: Party) -> bool
     ensures { λ r. ⌜ r ≡ unusedOk p ⌝ }
 {
-    if p.status != 0 {
-        return false;
-    }
-    if p.place != 0 {
-        return false;
-    }
-    if p.round != 0 {
-        return false;
-    }
-    if p.k != 0 {
-        return false;
-    }
-    if p.candidate != 0 {
-        return false;
-    }
-    if p.steps != 0 {
-        return false;
-    }
-    p.decision == 0
+    p.status == 0
+        && p.place == 0
+        && p.round == 0
+        && p.k == 0
+        && p.candidate == 0
+        && p.steps == 0
+        && p.decision == 0
 }
 
 fn entry_ok(n: u8, published: &[u8; 256], i: u8, p: Party) -> bool

@@ -1,69 +1,74 @@
--- A test that fails settles the answer, and where the others are passed the last one is it.
-use mathlib.Core.Bool.{and-false}
+-- Each test is asked where those before it are passed, and else the first that fails settles the answer.
+use Prim.Native.Nat.{ℕ, _≤_}
+use mathlib.Core.Path.{_≡_, refl, _∙_}
+use mathlib.Core.Logic.{⊎-elim}
+use mathlib.Core.Bool.{_&&_}
 use native.Mathlib.Omega.{arith}
 use borrow.Author.Needs.{needs}
-use Rattle.sheet.proofs.Folds.{held}
-use Rattle.session.proofs.Tested.{passed, stopped}
+use lib.Dec.{T}
+use Rattle.sheet.proofs.Folds.{held, and-left, and-right}
+use Rattle.session.specs.WellFormed.{rangesOk, roundOk, scanOk, lowerOk, topOk}
+use Rattle.session.specs.declared.state.Party.{Party}
+use Rattle.session.proofs.Tested.{and-then, and-else}
 use Rattle.session.proofs.FormWords.{round-words, scan-words}
 use Rattle.session.proofs.wellformed.party_ok.Statement.{statement}
 use Rattle.session.proofs.wellformed.party_ok.Tie as tie
 
-returns : tie.Need-returns
-returns c = simp (stopped (c .before .ranges-ok .ensures) (c .if1 .taken))
+-- a party at place 6 has a round and a scan number, where the tests of these are passed
+scanned : (n i : ℕ) (p : Party) → n ≤ 16 → T (rangesOk n p && roundOk n i p && scanOk p && lowerOk i p) → p .place ≡ 6
+    → (1 ≤ p .round) × (p .round ≤ 16) × (1 ≤ p .k) × (p .k ≤ 16)
+scanned n i p most t six =
+    let tests = and-left (rangesOk n p && roundOk n i p && scanOk p) (lowerOk i p) t in
+    let rounds = and-right (rangesOk n p) (roundOk n i p) (and-left (rangesOk n p && roundOk n i p) (scanOk p) tests) in
+    let scans = and-right (rangesOk n p && roundOk n i p) (scanOk p) tests in
+    let round = round-words n i p .says .0 rounds .0 (omega arith, omega arith) in
+    let scan = scan-words p .says .0 scans .0 (omega arith, omega arith) in
+    (omega arith, omega arith, omega arith, omega arith)
 
-returns-2 : tie.Need-returns-2
-returns-2 c = simp (stopped (c .before .round-ok .ensures) (c .if2 .taken), and-false)
+second : (c : tie.Joined1) → let a = c .before .before .args in c .if1 .if2 ≡ (rangesOk (a .n) (a .p) && roundOk (a .n) (a .i) (a .p))
+second c =
+    let e = c .before .ranges-ok .ensures in
+    ⊎-elim (λ w. and-then e (w .0 .taken) (w .2 ∙ w .1 .ensures)) (λ w. and-else e _ (w .0 .left) (w .1)) (c .if1 .came)
 
-returns-3 : tie.Need-returns-3
-returns-3 c = simp (stopped (c .before .scan-ok .ensures) (c .if3 .taken), and-false)
+third : (c : tie.Joined2)
+    → let a = c .before .before .before .args in c .if2 .if3 ≡ (rangesOk (a .n) (a .p) && roundOk (a .n) (a .i) (a .p) && scanOk (a .p))
+third c =
+    let e = second (c .before) in
+    ⊎-elim (λ w. and-then e (w .0 .taken) (w .2 ∙ w .1 .ensures)) (λ w. and-else e _ (w .0 .left) (w .1)) (c .if2 .came)
 
-returns-4 : tie.Need-returns-4
-returns-4 c = simp (stopped (c .before .lower-ok .ensures) (c .if4 .taken), and-false)
+fourth : (c : tie.Joined3)
+    → let a = c .before .before .before .before .args in
+    c .if3 .if4 ≡ (rangesOk (a .n) (a .p) && roundOk (a .n) (a .i) (a .p) && scanOk (a .p) && lowerOk (a .i) (a .p))
+fourth c =
+    let e = third (c .before) in
+    ⊎-elim (λ w. and-then e (w .0 .taken) (w .2 ∙ w .1 .ensures)) (λ w. and-else e _ (w .0 .left) (w .1)) (c .if3 .came)
+
+fifth : (c : tie.Joined4)
+    → let a = c .before .before .before .before .before .args in
+    c .if4 .if5
+    ≡ (rangesOk (a .n) (a .p) && roundOk (a .n) (a .i) (a .p) && scanOk (a .p) && lowerOk (a .i) (a .p) && topOk (a .published .now) (a .i) (a .p))
+fifth c =
+    let e = fourth (c .before) in
+    ⊎-elim (λ w. and-then e (w .0 .taken) (w .2 ∙ w .1 .ensures)) (λ w. and-else e _ (w .0 .left) (w .1)) (c .if4 .came)
 
 top-ok-requires : tie.Need-top-ok-requires
 top-ok-requires c κs six =
-    let third = c .before .before in
-    let second = third .before .before in
-    let start = second .before .before .before .before in
-    let most = start .pre in
+    let start = c .before .before .before .before .before in
     let a = start .args in
-    let rounds = held _ (passed (second .before .round-ok .ensures) (second .if2 .left)) in
-    let scans = held _ (passed (third .before .scan-ok .ensures) (third .if3 .left)) in
-    let round = round-words (a .n) (a .i) (a .p) .says .0 rounds .0 (omega arith, omega arith) in
-    let scan = scan-words (a .p) .says .0 scans .0 (omega arith, omega arith) in
-    omega arith
+    scanned (a .n) (a .i) (a .p) (start .pre) (held _ (rw (fourth (c .before)) at (c .if4 .taken))) six
 
-returns-5 : tie.Need-returns-5
-returns-5 c = simp (stopped (c .before .top-ok .ensures) (c .if5 .taken), and-false)
+returns : tie.Need-returns
+returns c = and-then (fifth (c .before .before)) (c .before .if5 .taken) (c .status-ok .ensures)
 
-returns-6 : tie.Need-returns-6
-returns-6 c =
-    let fifth = c .before in
-    let fourth = fifth .before .before in
-    let third = fourth .before .before in
-    let second = third .before .before in
-    let first = second .before .before in
-    simp (
-      passed (first .before .ranges-ok .ensures) (first .if1 .left),
-      passed (second .before .round-ok .ensures) (second .if2 .left),
-      passed (third .before .scan-ok .ensures) (third .if3 .left),
-      passed (fourth .before .lower-ok .ensures) (fourth .if4 .left),
-      passed (fifth .before .top-ok .ensures) (fifth .if5 .left),
-    ) (c .status-ok .ensures)
+returns-2 : tie.Need-returns-2
+returns-2 c = and-else (fifth (c .before)) _ (c .if5 .left) refl
 
 pub party-ok-spec : {M : Type 1} → statement M
 party-ok-spec =
     tie.close
     (tie.spec
+    (λ c κs. search needs) (λ c κs. search needs) (λ c κs. search needs) (λ c κs. search needs)
+    top-ok-requires
     (λ c κs. search needs)
     returns
-    (λ c κs. search needs)
-    returns-2
-    (λ c κs. search needs)
-    returns-3
-    (λ c κs. search needs)
-    returns-4
-    top-ok-requires
-    returns-5
-    (λ c κs. search needs)
-    returns-6)
+    returns-2)

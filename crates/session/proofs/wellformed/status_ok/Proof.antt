@@ -1,39 +1,37 @@
--- A test that fails settles the answer, and where the others are passed the last one is it.
-use mathlib.Core.Bool.{and-false}
+-- Each test is asked where those before it are passed, and else the first that fails settles the answer.
+use mathlib.Core.Path.{_≡_, refl, _∙_}
+use mathlib.Core.Logic.{⊎-elim}
+use mathlib.Core.Bool.{_&&_}
 use borrow.Author.Needs.{needs}
-use Rattle.session.proofs.Tested.{passed, stopped}
+use lib.Dec.{eqb}
+use Rattle.session.specs.WellFormed.{same, idleOk, unstartedOk}
+use Rattle.session.proofs.Tested.{and-then, and-else}
 use Rattle.session.proofs.wellformed.status_ok.Statement.{statement}
 use Rattle.session.proofs.wellformed.status_ok.Tie as tie
 
+second : (c : tie.Joined1)
+    → let p = c .before .before .before .before .args .p in c .if1 .if2 ≡ (same (eqb (p .status) 2) (eqb (p .place) 8) && idleOk p)
+second c =
+    let e = c .before .is-same .ensures in
+    ⊎-elim (λ w. and-then e (w .0 .taken) (w .2 ∙ w .1 .ensures)) (λ w. and-else e _ (w .0 .left) (w .1)) (c .if1 .came)
+
+third : (c : tie.Joined2)
+    → let p = c .before .before .before .before .before .args .p in
+    c .if2 .if3 ≡ (same (eqb (p .status) 2) (eqb (p .place) 8) && idleOk p && unstartedOk p)
+third c =
+    let e = second (c .before) in
+    ⊎-elim (λ w. and-then e (w .0 .taken) (w .2 ∙ w .1 .ensures)) (λ w. and-else e _ (w .0 .left) (w .1)) (c .if2 .came)
+
 returns : tie.Need-returns
-returns c = simp (stopped (c .before .is-same .ensures) (c .if1 .taken))
+returns c = and-then (third (c .before .before)) (c .before .if3 .taken) (c .decision-ok .ensures)
 
 returns-2 : tie.Need-returns-2
-returns-2 c = simp (stopped (c .before .idle-ok .ensures) (c .if2 .taken), and-false)
-
-returns-3 : tie.Need-returns-3
-returns-3 c = simp (stopped (c .before .unstarted-ok .ensures) (c .if3 .taken), and-false)
-
-returns-4 : tie.Need-returns-4
-returns-4 c =
-    let third = c .before in
-    let second = third .before .before in
-    let first = second .before .before in
-    simp (
-      passed (first .before .is-same .ensures) (first .if1 .left),
-      passed (second .before .idle-ok .ensures) (second .if2 .left),
-      passed (third .before .unstarted-ok .ensures) (third .if3 .left),
-    ) (c .decision-ok .ensures)
+returns-2 c = and-else (third (c .before)) _ (c .if3 .left) refl
 
 pub status-ok-spec : {M : Type 1} → statement M
 status-ok-spec =
     tie.close
     (tie.spec
-    (λ c κs. search needs)
+    (λ c κs. search needs) (λ c κs. search needs) (λ c κs. search needs) (λ c κs. search needs)
     returns
-    (λ c κs. search needs)
-    returns-2
-    (λ c κs. search needs)
-    returns-3
-    (λ c κs. search needs)
-    returns-4)
+    returns-2)

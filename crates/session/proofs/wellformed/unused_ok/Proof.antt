@@ -1,43 +1,51 @@
--- A test that fails settles the answer, and where the others are passed the last one is it.
-use mathlib.Core.Bool.{and-false}
+-- Each test is asked where those before it are passed, and else the first that fails settles the answer.
+use mathlib.Core.Path.{_≡_, refl}
+use mathlib.Core.Logic.{⊎-elim}
+use mathlib.Core.Bool.{_&&_}
 use borrow.Author.Tests.{eq-eqb, ne-eqb}
-use Rattle.session.proofs.Tested.{both, last}
+use lib.Dec.{eqb}
+use Rattle.session.specs.declared.state.Party.{Party}
+use Rattle.session.proofs.Tested.{and-then, and-else}
 use Rattle.session.proofs.wellformed.unused_ok.Statement.{statement}
 use Rattle.session.proofs.wellformed.unused_ok.Tie as tie
 
+abbrev party : tie.Joined1 → Party
+party c = c .before .before .args .p
+
+second : (c : tie.Joined1) → let p = party c in c .if1 .if2 ≡ (eqb (p .status) 0 && eqb (p .place) 0)
+second c =
+    ⊎-elim (λ w. and-then refl (eq-eqb _ _ (w .0 .taken)) (w .2)) (λ w. and-else refl _ (ne-eqb _ _ (w .0 .left)) (w .1)) (c .if1 .came)
+
+third : (c : tie.Joined2) → let p = party (c .before) in c .if2 .if3 ≡ (eqb (p .status) 0 && eqb (p .place) 0 && eqb (p .round) 0)
+third c =
+    let e = second (c .before) in
+    ⊎-elim (λ w. and-then e (w .0 .taken) (w .2)) (λ w. and-else e _ (w .0 .left) (w .1)) (c .if2 .came)
+
+fourth : (c : tie.Joined3)
+    → let p = party (c .before .before) in c .if3 .if4 ≡ (eqb (p .status) 0 && eqb (p .place) 0 && eqb (p .round) 0 && eqb (p .k) 0)
+fourth c =
+    let e = third (c .before) in
+    ⊎-elim (λ w. and-then e (w .0 .taken) (w .2)) (λ w. and-else e _ (w .0 .left) (w .1)) (c .if3 .came)
+
+fifth : (c : tie.Joined4)
+    → let p = party (c .before .before .before) in
+    c .if4 .if5 ≡ (eqb (p .status) 0 && eqb (p .place) 0 && eqb (p .round) 0 && eqb (p .k) 0 && eqb (p .candidate) 0)
+fifth c =
+    let e = fourth (c .before) in
+    ⊎-elim (λ w. and-then e (w .0 .taken) (w .2)) (λ w. and-else e _ (w .0 .left) (w .1)) (c .if4 .came)
+
+sixth : (c : tie.Joined5)
+    → let p = party (c .before .before .before .before) in
+    c .if5 .if6 ≡ (eqb (p .status) 0 && eqb (p .place) 0 && eqb (p .round) 0 && eqb (p .k) 0 && eqb (p .candidate) 0 && eqb (p .steps) 0)
+sixth c =
+    let e = fifth (c .before) in
+    ⊎-elim (λ w. and-then e (w .0 .taken) (w .2)) (λ w. and-else e _ (w .0 .left) (w .1)) (c .if5 .came)
+
 returns : tie.Need-returns
-returns c = simp (ne-eqb _ _ (c .if1 .taken))
+returns c = and-then (sixth (c .before .before)) (c .before .if6 .taken) refl
 
 returns-2 : tie.Need-returns-2
-returns-2 c = simp (ne-eqb _ _ (c .if2 .taken), and-false)
-
-returns-3 : tie.Need-returns-3
-returns-3 c = simp (ne-eqb _ _ (c .if3 .taken), and-false)
-
-returns-4 : tie.Need-returns-4
-returns-4 c = simp (ne-eqb _ _ (c .if4 .taken), and-false)
-
-returns-5 : tie.Need-returns-5
-returns-5 c = simp (ne-eqb _ _ (c .if5 .taken), and-false)
-
-returns-6 : tie.Need-returns-6
-returns-6 c = simp (ne-eqb _ _ (c .if6 .taken), and-false)
-
-returns-7 : tie.Need-returns-7
-returns-7 c =
-    let sixth = c .before in
-    let fifth = sixth .before .before in
-    let fourth = fifth .before .before in
-    let third = fourth .before .before in
-    let second = third .before .before in
-    let first = second .before .before in
-    let status = eq-eqb _ _ (first .if1 .left) in
-    let place = eq-eqb _ _ (second .if2 .left) in
-    let round = eq-eqb _ _ (third .if3 .left) in
-    let k = eq-eqb _ _ (fourth .if4 .left) in
-    let candidate = eq-eqb _ _ (fifth .if5 .left) in
-    let steps = eq-eqb _ _ (sixth .if6 .left) in
-    last _ (both (both (both (both (both status place) round) k) candidate) steps)
+returns-2 c = and-else (sixth (c .before)) _ (c .if6 .left) refl
 
 pub unused-ok-spec : {M : Type 1} → statement M
-unused-ok-spec = tie.close (tie.spec returns returns-2 returns-3 returns-4 returns-5 returns-6 returns-7)
+unused-ok-spec = tie.close (tie.spec returns returns-2)
