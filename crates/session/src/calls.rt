@@ -7,7 +7,7 @@ ghost use lib.Dec.{T, eqb};
 ghost use Rattle.sheet.specs.Lists.{from};
 ghost use Rattle.sheet.specs.Check.{within};
 ghost use Rattle.session.specs.Session.{layout, partyOf};
-ghost use Rattle.session.specs.Step.{isLive, step, acted, stop};
+ghost use Rattle.session.specs.Step.{isLive, step, acted, stoppedParty, stop};
 ghost use Rattle.session.specs.WellFormed.{wellFormed};
 ghost use Rattle.session.specs.Calls.{toldOf, stepTold, stepped, stopTold, stopped, countOf, liveNumber, liveTold};
 use crate::act;
@@ -78,10 +78,24 @@ pub fn step_value(s: Session, party: u32) -> After
 }
 
 // A party that has decided stays so; any other is stopped.
-pub(crate) fn status_after(status: u8) -> u8
+fn status_after(status: u8) -> u8
     ensures { λ r. ⌜ r ≡ cond (eqb status 2) 2 3 ⌝ }
 {
     if status == 2 { 2 } else { 3 }
+}
+
+pub(crate) fn stop_party(p: Party) -> Party
+    ensures { λ r. ⌜ r ≡ stoppedParty p ⌝ }
+{
+    Party {
+        status: status_after(p.status),
+        place: p.place,
+        round: p.round,
+        k: p.k,
+        candidate: p.candidate,
+        steps: p.steps,
+        decision: p.decision,
+    }
 }
 
 // A stop of party `party`: its status afterwards.
@@ -100,18 +114,10 @@ pub fn stop_value(s: Session, party: u32) -> After
     }
     let at = party as usize - 1;
     let p = s.parties[at];
-    let status = status_after(p.status);
+    let q = stop_party(p);
     let mut t = s;
-    t.parties[at] = Party {
-        status,
-        place: p.place,
-        round: p.round,
-        k: p.k,
-        candidate: p.candidate,
-        steps: p.steps,
-        decision: p.decision,
-    };
-    let reply = Reply::Gave(status);
+    t.parties[at] = q;
+    let reply = Reply::Gave(q.status);
     After { session: t, reply }
 }
 

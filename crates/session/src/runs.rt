@@ -7,7 +7,6 @@ ghost use lib.Dec.{T};
 ghost use Rattle.sheet.specs.Lists.{all, firstBad};
 ghost use Rattle.sheet.specs.Words.{Rules6};
 ghost use Rattle.sheet.specs.Answers.{answerOf};
-ghost use Rattle.session.specs.Step.{stoppedParty};
 ghost use Rattle.session.specs.Run.{byteOk, ran, partyBytes, recordLength, recordHead, recordBytes, runAnswer, runOut};
 use crate::act;
 use crate::calls;
@@ -56,21 +55,6 @@ fn first_bad_byte(schedule: &[u8], n: u8) -> usize
     0
 }
 
-// A stop: a party that has decided stays so.
-fn stop_party(p: Party) -> Party
-    ensures { λ r. ⌜ r ≡ stoppedParty p ⌝ }
-{
-    Party {
-        status: calls::status_after(p.status),
-        place: p.place,
-        round: p.round,
-        k: p.k,
-        candidate: p.candidate,
-        steps: p.steps,
-        decision: p.decision,
-    }
-}
-
 // Obeys a schedule of good bytes on an accepted sheet, from a fresh session: the parties at the end.
 fn obey(sheet: &[u8], proposals: &[u32], schedule: &[u8], n: u8) -> [Party; 16]
     requires { ⌜ (Rules6 (now sheet)) × (n ≡ getD (now sheet) 5 0) × (length (now proposals) ≡ n) × (T (all (byteOk n) (now schedule))) ⌝ }
@@ -90,7 +74,7 @@ fn obey(sheet: &[u8], proposals: &[u32], schedule: &[u8], n: u8) -> [Party; 16]
             if b < 128 {
                 parties[at] = act::act(sheet, &own, &mut marks, &mut published, p, i, n);
             } else {
-                parties[at] = stop_party(p);
+                parties[at] = calls::stop_party(p);
             }
         }
         j += 1;

@@ -1,14 +1,12 @@
--- Past the two refusals the party's status is what the definition says, and the party is put into the session.
+-- Past the two refusals the party is stopped as the definition says, and put into the session.
 use Prim.Native.Nat.{ℕ, _-_, _<_}
 use mathlib.Core.Path.{_≡_, sym, ap, _∙_}
-use mathlib.Core.Bool.{cond}
 use borrow.Author.Needs.{needs}
 use native.Mathlib.Omega.{arith}
-use lib.Dec.{eqb}
 use lib.ListN.{length, set}
 use lib.Seq.{getD-set-same}
 use Rattle.session.specs.Session.{noParty, partyOf}
-use Rattle.session.specs.Step.{stop}
+use Rattle.session.specs.Step.{stoppedParty, stop}
 use Rattle.session.specs.Calls.{told}
 use Rattle.session.specs.declared.state.Party.{Party}
 use Rattle.session.specs.declared.state.Session.{Session}
@@ -17,42 +15,29 @@ use Rattle.session.proofs.Sizes.{parties-length}
 use Rattle.session.proofs.calls.stop_value.Statement.{statement}
 use Rattle.session.proofs.calls.stop_value.Tie as tie
 
--- the session with a status put into party i
+-- the session with a party put into it as party i
 module _ (s : Session) (i : ℕ) where
-  abbrev own : Party
-  own = partyOf (s .parties) i
-
-  abbrev put : ℕ → Session
-  put v =
+  abbrev put : Party → Session
+  put q =
       record {
         sheet = s .sheet;
         proposals = s .proposals;
         marks = s .marks;
         published = s .published;
-        parties =
-            set (s .parties) (i - 1)
-            (record {
-              status = v;
-              place = own .place;
-              round = own .round;
-              k = own .k;
-              candidate = own .candidate;
-              steps = own .steps;
-              decision = own .decision;
-            });
+        parties = set (s .parties) (i - 1) q;
       }
 
   abbrev status : ℕ
   status = partyOf (stop s i .parties) i .status
 
-  module _ (v : ℕ) (e : v ≡ cond (eqb (own .status) 2) 2 3) where
-    stops : put v ≡ stop s i
+  module _ (q : Party) (e : q ≡ stoppedParty (partyOf (s .parties) i)) where
+    stops : put q ≡ stop s i
     unfolding stop
     stops = ap put e
 
-    tells : i - 1 < length (s .parties) → v ≡ status
+    tells : i - 1 < length (s .parties) → q .status ≡ status
     unfolding stop
-    tells h = e ∙ sym (ap (λ (p : Party). p .status) (getD-set-same (s .parties) (i - 1) _ noParty h))
+    tells h = ap (λ (p : Party). p .status) (e ∙ sym (getD-set-same (s .parties) (i - 1) _ noParty h))
 
 returns : tie.Need-returns
 returns c = let a = c .before .before .args in not-formed stop status (a .t1) (a .party) (c .before .is-well-formed .ensures) (c .if1 .taken)
@@ -75,8 +60,8 @@ sub-at c = known c .least
 element-copy-out-p : tie.Need-element-copy-out-p
 element-copy-out-p c = let few = known c .few in omega arith
 
-element-set-from-t : tie.Need-element-set-from-t
-element-set-from-t c = let few = known (c .before .before) .few in omega arith
+element-set-from-q : tie.Need-element-set-from-q
+element-set-from-q c = let few = known (c .before .before) .few in omega arith
 
 returns-3 : tie.Need-returns-3
 returns-3 c =
@@ -85,10 +70,10 @@ returns-3 c =
     let least = p .least in
     let b = c .before .before .before .before .before .before .before in
     let a = b .args in
-    let v = c .status-after in
-    let inside = tells (a .t1) (a .party) (v .result) (v .ensures) (omega (arith, parties-length (a .t1) (b .good .0))) in
+    let q = c .stop-party in
+    let inside = tells (a .t1) (a .party) (q .result) (q .ensures) (omega (arith, parties-length (a .t1) (b .good .0))) in
     let r = answered stop status (a .t1) (a .party) p in
-    (stops (a .t1) (a .party) (v .result) (v .ensures) ∙ r .0, ap (told 0) inside ∙ r .1)
+    (stops (a .t1) (a .party) (q .result) (q .ensures) ∙ r .0, ap (told 0) inside ∙ r .1)
 
 pub stop-value-spec : {M : Type 1} → statement M
 stop-value-spec =
@@ -104,5 +89,5 @@ stop-value-spec =
     element-copy-out-p
     (λ c κs. search needs)
     (λ c. search needs)
-    element-set-from-t
+    element-set-from-q
     returns-3)

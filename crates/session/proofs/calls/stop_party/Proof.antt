@@ -1,7 +1,7 @@
 -- Only the status changes, and to the one that the definition names.
 use borrow.Author.Needs.{needs}
-use Rattle.session.proofs.runs.stop_party.Statement.{statement}
-use Rattle.session.proofs.runs.stop_party.Tie as tie
+use Rattle.session.proofs.calls.stop_party.Statement.{statement}
+use Rattle.session.proofs.calls.stop_party.Tie as tie
 
 returns : tie.Need-returns
 returns c = rw (c .status-after .ensures)
