@@ -49,18 +49,10 @@ impl Refusal {
         ensures { λ r. ⌜ r ≡ positionOf self ⌝ }
     {
         match self {
-            Refusal::Short => 0,
-            Refusal::Version => 0,
-            Refusal::Header => 0,
-            Refusal::Length => 0,
             Refusal::Row(row) => row,
             Refusal::Writer(row) => row,
-            Refusal::Proposals => 0,
             Refusal::Schedule(index) => index,
-            Refusal::Session => 0,
-            Refusal::Party => 0,
-            Refusal::Output => 0,
-            Refusal::NoSheet => 0,
+            _ => 0,
         }
     }
 }
