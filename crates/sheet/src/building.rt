@@ -57,11 +57,11 @@ fn built_units(kind: u32, bound: u32, parties: u32) -> u16
     ((parties - 1) * bound) as u16
 }
 
-fn power(j: u64) -> u64
+fn power(j: u16) -> u64
     requires { ⌜ j < 64 ⌝ }
     ensures { λ r. ⌜ r ≡ 2 ^ j ⌝ }
 {
-    1 << j
+    1 << (j as u64)
 }
 
 // Kind 1: the table's rows.
@@ -109,26 +109,26 @@ fn table_row(k: usize) -> Row
 }
 
 // Kind 2: a row in its round's word.
-fn word_row(bound: u64, p: Slot) -> Row
+fn word_row(bound: u16, p: Slot) -> Row
     requires { ⌜ (IsSlot 16 p) × (2 * p .round ≤ bound + 1) × (bound ≤ 64) ⌝ }
     ensures { λ r. ⌜ r ≡ row2 bound p ⌝ }
 {
-    let r = p.round as u64;
-    let i = p.party as u64;
+    let r = p.round as u16;
+    let i = p.party as u16;
     let w = (r - 2) * bound;
     if i == r {
         Row {
-            start: w as u16,
+            start: w,
             mask: power(2 * r - 1) - power(r - 1),
-            own: (w + r - 1) as u16,
+            own: w + r - 1,
             pair: 0,
         }
     } else {
         Row {
-            start: w as u16,
+            start: w,
             mask: power(i - 1) + power(r + i - 1),
-            own: (w + i - 1) as u16,
-            pair: (w + r + i - 1) as u16,
+            own: w + i - 1,
+            pair: w + r + i - 1,
         }
     }
 }
@@ -141,7 +141,7 @@ fn built_row(kind: u32, bound: u32, parties: u32, p: Slot, k: usize) -> Row
     if kind == 1 {
         table_row(k)
     } else {
-        word_row(bound as u64, p)
+        word_row(bound as u16, p)
     }
 }
 

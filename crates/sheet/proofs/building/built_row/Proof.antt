@@ -11,8 +11,8 @@ use Rattle.sheet.proofs.Givens.{given-ranges, word-room}
 use Rattle.sheet.proofs.building.built_row.Statement.{statement}
 use Rattle.sheet.proofs.building.built_row.Tie as tie
 
-table-row-requires : tie.Need-table-row-requires
-table-row-requires c κs = search needs
+cast-word-row : tie.Need-cast-word-row
+cast-word-row c = let r = given-ranges (c .before .pre .0) in omega arith
 
 word-row-requires : tie.Need-word-row-requires
 word-row-requires c κs =
@@ -30,4 +30,4 @@ returns-2 : tie.Need-returns-2
 returns-2 c = simp (ne-eqb _ _ (c .before .if1 .left)) (c .word-row .ensures)
 
 pub built-row-spec : {M : Type 1} → statement M
-built-row-spec = tie.close (tie.spec table-row-requires word-row-requires returns returns-2)
+built-row-spec = tie.close (tie.spec (λ c κs. search needs) cast-word-row word-row-requires returns returns-2)
