@@ -1,13 +1,13 @@
 -- A list that is filled from the front: after j stores it has the first j elements of what it is filled with, and past them it is as it was.
 use Prim.Native.Nat.{ℕ, zero, suc, _+_, _-_, _<_}
-use mathlib.Core.Path.{_≡_, refl, sym, ap, _∙_}
-use mathlib.Core.List.{List, _++_, map}
-use native.Mathlib.Nat.{zero-add, add-zero, sub-zero, zero-sub, suc-sub-suc}
+use mathlib.Core.Path.{_≡_, sym, ap, _∙_}
+use mathlib.Core.List.{List, _++_}
+use native.Mathlib.Nat.{zero-add, sub-zero, zero-sub, suc-sub-suc}
 use native.Mathlib.Numerals.{add-one}
 use native.Mathlib.Omega.{arith}
 use lib.ListN.{length, getD, set, drop, replicate, length-replicate}
 use lib.Seq.{paste, paste-zero, paste-suc, take-length}
-use Rattle.sheet.specs.Lists.{from}
+pub use Rattle.sheet.proofs.Ranges.{length-range, range-at}
 
 module _ {A : Type 0} where
   drop-replicate : (n j : ℕ) (a : A) → drop j (replicate n a) ≡ replicate (n - j) a
@@ -34,15 +34,3 @@ module _ {A : Type 0} where
 
     pub front-end : (copy : List A) (j : ℕ) → j ≡ length xs → Front copy j → copy ≡ xs ++ replicate (size - length xs) a
     front-end copy j l e = e ∙ ap (paste (replicate size a) 0 xs) l ∙ rw (zero-add, take-length, drop-replicate)
-
--- ---- what the parties are filled with: f of each number of a range
-
-module _ {A : Type 0} (f : ℕ → A) where
-  pub length-range : (a n : ℕ) → length (map f (from a n)) ≡ n
-  length-range a zero = refl
-  length-range a (suc n) = ap suc (length-range (suc a) n)
-
-  pub range-at : (a n k : ℕ) (d : A) → k < n → getD (map f (from a n)) k d ≡ f (a + k)
-  range-at a zero k d h = absurd (omega arith)
-  range-at a (suc n) zero d h = ap f (sym (add-zero a))
-  range-at a (suc n) (suc k) d h = range-at (suc a) n k d (omega arith) ∙ ap f (let e : suc a + k ≡ a + suc k = omega arith in e)

@@ -3,12 +3,12 @@ use Prim.Native.Nat.{ℕ, zero, suc, _+_, _-_, _≤_, _<_}
 use mathlib.Core.Path.{_≡_, refl, sym, ap, _∙_, subst}
 use mathlib.Core.List.{List, _++_, map}
 use native.Mathlib.Omega.{arith}
-use native.Mathlib.Nat.{add-zero}
-use lib.ListN.{length, getD, take, replicate, length-append, length-replicate, length-map, List·getD-append, List·getD-map}
+use lib.ListN.{length, getD, take, replicate, length-append, length-replicate, List·getD-append}
 use lib.Seq.{take-append-le, take-append-seam, getD-append-add}
 use Rattle.sheet.specs.Lists.{from}
 use Rattle.sheet.specs.Bytes.{num, bigFrom}
 use Rattle.sheet.specs.Words.{Rules6}
+use Rattle.sheet.proofs.Ranges.{length-range, range-at}
 use Rattle.sheet.proofs.Slots.{count-most}
 use Rattle.session.specs.Session.{freshParty, noParty, filled, carried, layout, partyOf}
 use Rattle.session.specs.declared.state.Party.{Party}
@@ -39,36 +39,24 @@ filled-past size xs j l = behind xs (size - length xs) j 0 l
 
 -- ---- the parties
 
-length-from : (a n : ℕ) → length (from a n) ≡ n
-length-from a zero = refl
-length-from a (suc n) = ap suc (length-from (suc a) n)
-
-at-from : (a n i : ℕ) → i < n → getD (from a n) i 0 ≡ a + i
-at-from a zero i h = absurd (omega arith)
-at-from a (suc n) zero h = sym (add-zero a)
-at-from a (suc n) (suc i) h = at-from (suc a) n i (omega arith) ∙ (let e : suc a + i ≡ a + suc i = omega arith in e)
-
 abbrev pub freshParties : ℕ → List Party
 freshParties n = map freshParty (from 1 n) ++ replicate (16 - n) noParty
-
-front : (n : ℕ) → length (map freshParty (from 1 n)) ≡ n
-front n = length-map (from 1 n) freshParty ∙ length-from 1 n
 
 pub fresh-length : (n : ℕ) → n ≤ 16 → length (freshParties n) ≡ 16
 fresh-length n l =
     let both = length-append (map freshParty (from 1 n)) (replicate (16 - n) noParty) in
     let rest = length-replicate (16 - n) noParty in
-    omega (arith, front n)
+    omega (arith, length-range freshParty 1 n)
 
 pub fresh-party : (n i : ℕ) → 1 ≤ i → i ≤ n → partyOf (freshParties n) i ≡ freshParty i
 fresh-party n i least most =
     let e : 1 + (i - 1) ≡ i = omega arith in
-    List·getD-append (map freshParty (from 1 n)) (replicate (16 - n) noParty) noParty (i - 1) (omega (arith, front n))
-    ∙ List·getD-map freshParty (from 1 n) (i - 1) 0
-    ∙ ap freshParty (at-from 1 n (i - 1) (omega arith) ∙ e)
+    List·getD-append (map freshParty (from 1 n)) (replicate (16 - n) noParty) noParty (i - 1) (omega (arith, length-range freshParty 1 n))
+    ∙ range-at freshParty 1 n (i - 1) noParty (omega arith)
+    ∙ ap freshParty e
 
 pub fresh-past : (n i : ℕ) → n < i → partyOf (freshParties n) i ≡ noParty
-fresh-past n i l = behind (map freshParty (from 1 n)) (16 - n) (i - 1) noParty (omega (arith, front n))
+fresh-past n i l = behind (map freshParty (from 1 n)) (16 - n) (i - 1) noParty (omega (arith, length-range freshParty 1 n))
 
 -- ---- the sheet
 

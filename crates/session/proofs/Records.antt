@@ -1,7 +1,7 @@
 -- A record is written party after party: each is 7 bytes, so the next one's place is the end of what is written.
-use Prim.Native.Nat.{ℕ, zero, suc, _+_, _-_, _*_, _≤_, _<_}
+use Prim.Native.Nat.{ℕ, _+_, _-_, _*_, _≤_, _<_}
 use mathlib.Core.Path.{_≡_, refl, sym, ap, _∙_}
-use mathlib.Core.List.{List, [], _∷_, _++_, map, append-assoc, append-nil}
+use mathlib.Core.List.{List, _++_, map, append-assoc}
 use native.Mathlib.Numerals.{add-one}
 use native.Mathlib.Omega.{arith}
 use lib.ListN.{length, getD, take, drop}
@@ -9,17 +9,9 @@ use lib.Seq.{drop-drop, drop-append-add, length-take-le}
 use borrow.Rule.Slice.PartMut.{putMid}
 use Rattle.sheet.specs.Lists.{flat}
 use Rattle.sheet.proofs.Parts.{written-behind}
-use Rattle.sheet.proofs.Written.{length-flat}
+use Rattle.sheet.proofs.Written.{flat-taken, length-flat}
 use Rattle.session.specs.Run.{partyBytes, recordLength, recordHead, recordBytes}
 use Rattle.session.specs.declared.state.Party.{Party}
-
--- one more of the lists that are joined
-flat-taken : {A B : Type 0} (f : A → List B) (d : A) (k : ℕ) (xs : List A) → k < length xs
-    → flat (map f (take (suc k) xs)) ≡ flat (map f (take k xs)) ++ f (getD xs k d)
-flat-taken f d k [] h = absurd (omega arith)
-flat-taken f d zero (x ∷ xs) h = append-nil (f x)
-flat-taken f d (suc k) (x ∷ xs) h =
-    ap (λ z. f x ++ z) (flat-taken f d k xs (omega arith)) ∙ sym (append-assoc (f x) (flat (map f (take k xs))) (f (getD xs k d)))
 
 module _ (n : ℕ) (ps : List Party) where
   -- the head and the first k parties

@@ -2,6 +2,7 @@
 pub mod Folds
 pub mod Bits
 pub mod Numbers
+pub mod Ranges
 pub mod Slots
 pub mod FirstBad
 pub mod WriteSets

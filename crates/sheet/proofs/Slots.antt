@@ -9,12 +9,13 @@ use native.Mathlib.Numerals.{add-one}
 use native.Mathlib.Omega.{arith}
 use borrow.Author.Tests.{ltb-true, ltb-false}
 use lib.Dec.{T, ltb}
-use lib.ListN.{length, getD, drop, take, length-append, length-map, List·getD-append}
+use lib.ListN.{length, getD, drop, take, length-append, List·getD-append}
 use lib.Seq.{getD-append-add, drop-cons, drop-length, take-suc}
 use Rattle.sheet.specs.Lists.{from, all, flat}
 use Rattle.sheet.specs.Rows.{slot, slots, nextSlot, rowCount, rowNumber}
 use Rattle.sheet.specs.Words.{IsSlot}
 use Rattle.sheet.specs.declared.rows.Slot.{Slot}
+use Rattle.sheet.proofs.Ranges.{length-range, range-at}
 use Rattle.sheet.proofs.Folds.{lt-or-le, all-from, from-all, all-map, all-flat}
 
 -- ---- the rows of the rounds before round r, and one more
@@ -70,24 +71,12 @@ number-tri p = refl
 rounds : ℕ → ℕ → List Slot
 rounds a m = flat (map (λ r. map (slot r) (from 1 r)) (from a m))
 
-length-from : (a n : ℕ) → length (from a n) ≡ n
-length-from a zero = refl
-length-from a (suc n) = ap suc (length-from (suc a) n)
-
-length-round : (r : ℕ) → length (map (slot r) (from 1 r)) ≡ r
-length-round r = length-map (from 1 r) (slot r) ∙ length-from 1 r
-
-at-from : (r a n i : ℕ) (d : Slot) → i < n → getD (map (slot r) (from a n)) i d ≡ slot r (a + i)
-at-from r a zero i d h = absurd (omega arith)
-at-from r a (suc n) zero d h = ap (slot r) (sym (add-zero a))
-at-from r a (suc n) (suc i) d h = at-from r (suc a) n i d (omega arith) ∙ ap (slot r) (let e : suc a + i ≡ a + suc i = omega arith in e)
-
 length-rounds : (a m : ℕ) → length (rounds a m) + tri a ≡ tri (a + m)
 unfolding rounds
 length-rounds a zero = (let e : 0 + tri a ≡ tri a = omega arith in e) ∙ ap tri (sym (add-zero a))
 length-rounds a (suc m) =
     let ih = length-rounds (suc a) m in
-    let here = length-round a in
+    let here = length-range (slot a) 1 a in
     let both = length-append (map (slot a) (from 1 a)) (rounds (suc a) m) in
     let step = tri-suc a in
     let e : suc a + m ≡ a + suc m = omega arith in
@@ -104,15 +93,15 @@ at-rounds a (suc m) r i d h l g = go (λ lt. at-rounds (suc a) m r i d lt (omega
 
     go : (a < r → getD (rounds (suc a) m) (tri r - tri (suc a) + i) d ≡ slot r (1 + i)) → ((a ≡ r) ⊎ (a < r)) → getD (here ++ rounds (suc a) m) (tri r - tri a + i) d ≡ slot r (1 + i)
     go ih (inl e) =
-        let size = length-round a in
+        let size = length-range (slot a) 1 a in
         let t = ap tri e in
         let place : tri r - tri a + i ≡ i = omega arith in
         ap (λ (k : ℕ). getD (here ++ rounds (suc a) m) k d) place
         ∙ List·getD-append here (rounds (suc a) m) d i (omega arith)
-        ∙ at-from a 1 a i d (omega arith)
+        ∙ range-at (slot a) 1 a i d (omega arith)
         ∙ ap (λ (x : ℕ). slot x (1 + i)) e
     go ih (inr lt) =
-        let size = length-round a in
+        let size = length-range (slot a) 1 a in
         let t = tri-mono (suc a) r lt in
         let s = tri-suc a in
         let place : tri r - tri a + i ≡ length here + (tri r - tri (suc a) + i) = omega arith in

@@ -1,11 +1,11 @@
 -- A sheet is written row after row: its rows are 14 bytes each, so the next row's place is the end of what is written.
-use Prim.Native.Nat.{ℕ, _+_, _-_, _*_, _≤_, _<_}
+use Prim.Native.Nat.{ℕ, suc, _+_, _-_, _*_, _≤_, _<_}
 use mathlib.Core.Path.{_≡_, refl, sym, ap, _∙_}
 use mathlib.Core.List.{List, [], _∷_, _++_, map, append-assoc, append-nil, map-append}
 use native.Mathlib.Nat.{zero-mul, suc-mul}
 use native.Mathlib.Omega.{arith}
-use lib.ListN.{length, take, drop, length-append}
-use lib.Seq.{drop-drop, drop-append-add, take-all, length-take-le}
+use lib.ListN.{length, getD, take, drop, length-append}
+use lib.Seq.{drop-drop, drop-append-add, take-all, take-suc, length-take-le}
 use borrow.Rule.Slice.PartMut.{putMid}
 use Rattle.sheet.specs.Lists.{flat}
 use Rattle.sheet.specs.Rows.{slots, rowCount, sheetLength}
@@ -25,6 +25,11 @@ flat-append (x ∷ xs) ys = ap (λ z. x ++ z) (flat-append xs ys) ∙ sym (appen
 flat-more : {A B : Type 0} (f : A → List B) (xs : List A) (x : A) → flat (map f (xs ++ (x ∷ []))) ≡ flat (map f xs) ++ f x
 flat-more f xs x =
     ap flat (map-append f xs (x ∷ [])) ∙ flat-append (map f xs) (f x ∷ []) ∙ ap (λ z. flat (map f xs) ++ z) (append-nil (f x))
+
+-- one more of those that are taken
+pub flat-taken : {A B : Type 0} (f : A → List B) (d : A) (k : ℕ) (xs : List A) → k < length xs
+    → flat (map f (take (suc k) xs)) ≡ flat (map f (take k xs)) ++ f (getD xs k d)
+flat-taken {A} f d k xs h = ap (λ (l : List A). flat (map f l)) (take-suc xs k d h) ∙ flat-more f (take k xs) (getD xs k d)
 
 -- of lists that are k long each
 pub length-flat : {A B : Type 0} (f : A → List B) (k : ℕ) → ((x : A) → length (f x) ≡ k) → (xs : List A)
