@@ -124,25 +124,3 @@ module _ (sheet proposals : List ℕ) (rules : Rules6 sheet) (count : length pro
 
       some : 1 ≤ layout s .parties
       some = omega (arith, same, rules .before .before .before .header .partiesLeast)
-
-  -- and it is the same party on the way: who serves a later session serves the earlier
-  pub agreement-stays : {s t : Session} → Reached sheet proposals s → Leads parties s t
-      → (h : ℕ) → Agreed parties proposals t h → Agreed parties proposals s h
-  agreement-stays {s} {t} R later h A =
-      record {
-        least = A .least;
-        most = A .most;
-        candidate = candidates;
-        decision = λ i l m e. sym (ap (λ (x : Party). x .decision) (same i l e)) ∙ A .decision i l m (still i l e);
-        announced = λ i l m e. let (h′, B) = agreement R in
-            subst (λ (x : ℕ). partyOf (s .parties) x .place ≢ 0) (sym (B .candidate i l m e) ∙ candidates i l m e) (B .announced i l m e);
-      }
-    where
-      same : (i : ℕ) → 1 ≤ i → partyOf (s .parties) i .status ≡ 2 → partyOf (t .parties) i ≡ partyOf (s .parties) i
-      same = decided-stays later
-
-      still : (i : ℕ) → 1 ≤ i → partyOf (s .parties) i .status ≡ 2 → partyOf (t .parties) i .status ≡ 2
-      still i l e = ap (λ (x : Party). x .status) (same i l e) ∙ e
-
-      candidates : (i : ℕ) → 1 ≤ i → i ≤ parties → partyOf (s .parties) i .status ≡ 2 → partyOf (s .parties) i .candidate ≡ h
-      candidates i l m e = sym (ap (λ (x : Party). x .candidate) (same i l e)) ∙ A .candidate i l m (still i l e)

@@ -1,9 +1,8 @@
 -- Until a stop of its own each step entry is an own step of a live party, so with as many as its limit it has decided, and decided stays.
 use Prim.Native.Nat.{ℕ, suc, _+_, _-_, _%_, _≤_, _<_}
-use mathlib.Core.Path.{_≡_, refl, sym, ap, _∙_, subst}
+use mathlib.Core.Path.{_≡_, sym, ap, _∙_, subst}
 use mathlib.Core.Logic.{_≢_, _⊎_, inl, inr, ⊎-elim}
 use mathlib.Core.List.{List, [], _∷_}
-use mathlib.Core.Bool.{Bool}
 use native.Mathlib.Decide.{ℕ-discrete}
 use native.Mathlib.Omega.{arith}
 use borrow.Author.Tests.{eq-eqb, ne-eqb}
@@ -13,7 +12,7 @@ use Rattle.sheet.specs.Lists.{all}
 use Rattle.sheet.specs.Words.{Rules6}
 use Rattle.sheet.proofs.Folds.{and-left, and-right, lt-or-le}
 use Rattle.session.specs.Session.{layout, partyOf}
-use Rattle.session.specs.Step.{step, stop}
+use Rattle.session.specs.Step.{step}
 use Rattle.session.specs.Run.{byteOk, entry, obeyed, ran}
 use Rattle.session.specs.Trace.{stepsBefore}
 use Rattle.session.specs.Reach.{Reached, here, stepLimit}

@@ -18,7 +18,7 @@ use Rattle.session.specs.Reach.{stepLimit, given}
 use Rattle.session.proofs.Filled.{fresh-party}
 use Rattle.session.proofs.Kept.{Kept, acted-move}
 use Rattle.session.proofs.Turns.{step-none, step-other, stop-other, stop-ends}
-use Rattle.session.proofs.Reached.{Leads, here, by-step, by-stop, Reached, reached-kept, reached-parties}
+use Rattle.session.proofs.Reached.{here, by-step, by-stop, Reached, reached-kept, reached-parties}
 use Rattle.session.proofs.StepLimits.{reached-decides}
 
 module _ (sheet proposals : List ℕ) (rules : Rules6 sheet) where

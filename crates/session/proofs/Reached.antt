@@ -7,7 +7,6 @@ use lib.ListN.{length, getD, length-replicate}
 use Rattle.sheet.specs.Rows.{layoutOf, slot}
 use Rattle.sheet.specs.Words.{Rules6}
 use Rattle.session.specs.Session.{freshParty, filled, freshSession, carried, layout, partyOf, cell}
-use Rattle.session.specs.Step.{step, stop}
 use Rattle.session.specs.Words.{WellFormed}
 pub use Rattle.session.specs.Reach.{Leads, here, by-step, by-stop, Reached}
 use Rattle.session.specs.declared.state.Party.{Party}

@@ -1,9 +1,7 @@
 -- Any two replies that a promise permits are equal: a value has one reply, a refusal's number and position have one case, and none has number 0.
-use Prim.Native.Nat.{ℕ, _≤_}
 use mathlib.Core.Path.{_≡_, refl, sym, ap, _∙_}
 use native.Mathlib.Omega.{arith}
-use Rattle.sheet.specs.Answers.{numberOf, positionOf, answerOf}
-use Rattle.sheet.specs.declared.answer.Refusal.{Refusal}
+use Rattle.sheet.specs.Answers.{answerOf}
 use Rattle.sheet.specs.declared.answer.Verdict.{Verdict}
 use Rattle.sheet.specs.declared.answer.Verdict.the-variants as Case
 use Rattle.sheet.proofs.Theorems.{one-answer}

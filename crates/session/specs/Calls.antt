@@ -1,10 +1,10 @@
 -- The calls: their refusals in their order, what they answer, and the session afterwards.
 use Prim.Native.Nat.{ℕ, suc}
 use mathlib.Core.List.{List, [], _∷_}
-use mathlib.Core.Bool.{Bool, not, _&&_, cond}
+use mathlib.Core.Bool.{Bool, _&&_, cond}
 use lib.ListN.{length, getD}
 use lib.Dec.{eqb}
-use Rattle.sheet.specs.Lists.{from, all}
+use Rattle.sheet.specs.Lists.{from}
 use Rattle.sheet.specs.Check.{Answer, answer, done, within, checkAnswer}
 use Rattle.sheet.specs.Answers.{numberOf, positionOf}
 use Rattle.session.specs.Session.{freshSession, layout, partyOf}

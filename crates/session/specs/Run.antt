@@ -7,7 +7,7 @@ use lib.Dec.{ltb, eqb}
 use Rattle.sheet.specs.Lists.{flat, firstBad}
 use Rattle.sheet.specs.Bytes.{bytesOf}
 use Rattle.sheet.specs.Check.{Answer, answer, done, within}
-use Rattle.session.specs.Session.{freshSession, layout}
+use Rattle.session.specs.Session.{freshSession}
 use Rattle.session.specs.Step.{step, stop}
 use Rattle.session.specs.Calls.{openAnswer}
 use Rattle.session.specs.declared.state.Party.{Party}

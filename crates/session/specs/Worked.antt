@@ -1,10 +1,10 @@
 -- The sessions worked through: one list of cases, and what the rules say of each.
-use Prim.Native.Nat.{ℕ, _+_, _*_}
+use Prim.Native.Nat.{ℕ}
 use mathlib.Core.Path.{_≡_}
 use mathlib.Core.List.{List, [], _∷_, _++_}
 use lib.ListN.{take, replicate}
 use Rattle.sheet.specs.Bytes.{bytesOf}
-use Rattle.sheet.specs.Check.{answer, done, checkAnswer}
+use Rattle.sheet.specs.Check.{answer, done}
 use Rattle.sheet.specs.Build.{builtSheet, buildAnswer}
 use Rattle.session.specs.Run.{recordLength, recordHead, runAnswer, runOut}
 

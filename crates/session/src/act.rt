@@ -2,13 +2,12 @@
 ghost use mathlib.Core.Path.{_≡_};
 ghost use mathlib.Core.Bool.{cond};
 ghost use Prim.Native.Nat.{ℕ, _+_, _-_, _≤_, _<_};
-ghost use lib.ListN.{length, getD, set};
+ghost use lib.ListN.{set};
 ghost use lib.Dec.{T, eqb};
 ghost use Rattle.sheet.specs.Sets.{inSet};
 ghost use Rattle.sheet.specs.Rows.{layoutOf, slot};
 ghost use Rattle.session.specs.Session.{cell};
 ghost use Rattle.session.specs.Step.{goes, won, nextK, lowersWin, counted, markAt, announced, afterPublish, afterWrite, afterTop, afterOwn, afterPair, afterFetch, decided, placeOf, partyAfter, marksAfter, publishedAfter, stamped, written};
-ghost use Rattle.session.specs.Words.{PartyRule};
 ghost use Rattle.session.specs.Ready.{Ready, ReadyAt};
 use crate::state::Mark;
 use crate::state::Party;

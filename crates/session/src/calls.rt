@@ -2,14 +2,13 @@
 ghost use mathlib.Core.Path.{_≡_};
 ghost use mathlib.Core.Bool.{cond};
 ghost use Prim.Native.Nat.{_≤_, _<_, _-_};
-ghost use lib.ListN.{getD};
 ghost use lib.Dec.{T, eqb};
 ghost use Rattle.sheet.specs.Lists.{from};
 ghost use Rattle.sheet.specs.Check.{within};
 ghost use Rattle.session.specs.Session.{layout, partyOf};
-ghost use Rattle.session.specs.Step.{isLive, step, acted, stoppedParty, stop};
+ghost use Rattle.session.specs.Step.{isLive, acted, stoppedParty};
 ghost use Rattle.session.specs.WellFormed.{wellFormed};
-ghost use Rattle.session.specs.Calls.{toldOf, stepTold, stepped, stopTold, stopped, countOf, liveNumber, liveTold};
+ghost use Rattle.session.specs.Calls.{toldOf, stepTold, stepped, stopTold, stopped, countOf, liveTold};
 use crate::act;
 use crate::state::After;
 use crate::state::Party;

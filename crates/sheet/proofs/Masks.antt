@@ -12,7 +12,7 @@ use Rattle.sheet.specs.Sets.{bit}
 use Rattle.sheet.specs.Lists.{from, any}
 use Rattle.sheet.specs.Build.{maskOf, writing, ownUnit, pairUnit}
 use Rattle.sheet.specs.Words.{In}
-use Rattle.sheet.proofs.Bits.{digit, digit-bit, digit-shr, odd, under-bits}
+use Rattle.sheet.proofs.Bits.{digit, digit-bit, digit-shr, odd}
 use Rattle.sheet.proofs.Folds.{same-test, fails, failed, or-cases, or-left, or-right, from-any, any-from}
 
 -- ---- one digit more
@@ -81,11 +81,6 @@ pub units-in : (start : ℕ) (us : List ℕ) (own pair : ℕ) → Different star
 units-in start us own pair h u low t =
     let back : start + (u - start) ≡ u = omega arith in
     (low, subst T (sym (mask-bit start us h (u - start) ∙ ap (λ (v : ℕ). any (eqb v) us) back)) t)
-
--- a mask of units below start + k
-pub mask-under : (start k : ℕ) (us : List ℕ) → Different start us → ((u : ℕ) → T (any (eqb u) us) → u < start + k) → maskOf start us < 2 ^ k
-mask-under start k us d h =
-    under-bits (maskOf start us) k (λ j le t. let l = h (start + j) (subst T (mask-bit start us d j) t) in omega arith)
 
 -- ---- two units
 

@@ -1,6 +1,6 @@
 -- A loop over a sheet's rows has, at place k, the row of the slot that `next` has come to, and the slots that are left; a place further is one slot less.
 use Prim.Native.Nat.{ℕ, _+_, _-_, _≤_, _<_}
-use mathlib.Core.Path.{_≡_, refl, sym, ap, _∙_}
+use mathlib.Core.Path.{_≡_, sym, ap, _∙_}
 use mathlib.Core.List.{List, [], _∷_}
 use mathlib.Core.Bool.{Bool, true, false, _&&_}
 use native.Mathlib.Numerals.{add-one}
@@ -10,7 +10,6 @@ use lib.ListN.{getD, drop}
 use Rattle.sheet.specs.Lists.{all, firstBad}
 use Rattle.sheet.specs.Rows.{slot, slots, nextSlot, rowCount, rowAt, rowNumber, layoutOf, taken}
 use Rattle.sheet.specs.Words.{IsSlot, Rules4}
-use Rattle.sheet.specs.declared.rows.Row.{Row}
 use Rattle.sheet.specs.declared.rows.Slot.{Slot}
 use Rattle.sheet.specs.declared.rows.Taken.{Taken}
 use Rattle.sheet.proofs.Folds.{holds, fails}

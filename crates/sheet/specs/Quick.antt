@@ -1,6 +1,6 @@
 -- How the code tests the writer rule: within the round, and across rounds only where they do not ascend in memory.
 -- No public promise cites this page; `proofs/Quick.antt` shows that the answer is the writer rule's.
-use Prim.Native.Nat.{ℕ, suc, _+_, _-_, max}
+use Prim.Native.Nat.{ℕ, _+_, max}
 use mathlib.Core.List.{List, [], _∷_}
 use mathlib.Core.Bool.{Bool, true, not, _&&_, _||_, cond}
 use lib.Dec.{leb, eqb}

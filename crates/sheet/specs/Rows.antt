@@ -1,6 +1,6 @@
 -- The layout sheet: its header, its rows, and whose they are.
 use Prim.Native.Nat.{ℕ, suc, _+_, _-_, _*_, _/_}
-use mathlib.Core.List.{List, [], _∷_, map}
+use mathlib.Core.List.{List, map}
 use mathlib.Core.Bool.{Bool, _&&_, cond}
 use lib.ListN.{length, getD, drop}
 use lib.Dec.{leb, ltb, eqb}

@@ -1,7 +1,7 @@
 -- The tests are made in the rules' order, so each return has the rules before its own, and what its own test said.
 use borrow.Author.Needs.{needs}
 use borrow.Author.Tests.{not-true, not-false}
-use mathlib.Core.Path.{_≡_, sym, _∙_}
+use mathlib.Core.Path.{sym, _∙_}
 use native.Mathlib.Omega.{arith}
 use Rattle.sheet.specs.Words.{Rules1, Rules2, Rules3, Rules4, Rules5}
 use Rattle.sheet.proofs.Folds.{held, failed}
