@@ -71,10 +71,9 @@ fn obey(sheet: &[u8], proposals: &[u32], schedule: &[u8], n: u8) -> [Party; 16]
         let at = i as usize - 1;
         let p = parties[at];
         if p.status < 2 {
-            if b < 128 {
-                parties[at] = act::act(sheet, &own, &mut marks, &mut published, p, i, n);
-            } else {
-                parties[at] = calls::stop_party(p);
+            match b {
+                0..=127 => parties[at] = act::act(sheet, &own, &mut marks, &mut published, p, i, n),
+                _ => parties[at] = calls::stop_party(p),
             }
         }
         j += 1;
