@@ -52,7 +52,7 @@ turn c = c .before .before .before
 act-requires : tie.Need-act-requires Inv-loop μ-loop
 act-requires c κs =
     let then = c .before .before .before .before in
-    going-ready (turn (then .before) .before .loop .inv) (turn (then .before) .loop-test .taken) (then .if1 .taken)
+    going-ready (turn (then .before) .before .loop .inv) (turn (then .before) .loop-test .taken) (omega (arith, then .if1 .taken))
 
 array-set-from-parties : tie.Need-array-set-from-parties Inv-loop μ-loop
 array-set-from-parties c =
@@ -74,7 +74,7 @@ loop-again : tie.Need-loop-again Inv-loop μ-loop
 loop-again c =
     ⊎-elim
     (λ w.
-    going-act (turn (c .before) .before .loop .inv) (turn (c .before) .loop-test .taken) _ _ _ (w .0 .taken) (w .1 .taken) (w .5 .result) (w .6)
+    going-act (turn (c .before) .before .loop .inv) (turn (c .before) .loop-test .taken) _ _ _ (omega (arith, w .0 .taken)) (w .1 .taken) (w .5 .result) (w .6)
     (w .5 .ensures .0) (w .7 ∙ w .5 .ensures .1 .0) (w .8 ∙ w .5 .ensures .1 .1))
     (⊎-elim
     (λ w.
