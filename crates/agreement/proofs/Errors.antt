@@ -2,7 +2,7 @@
 use mathlib.Core.Path.{_≡_, refl}
 use mathlib.Core.List.{[], _∷_}
 use Rattle.sheet.specs.Check.{answer, checkAnswer}
-use Rattle.sheet.specs.Build.{builtSheet}
+use Rattle.builder.specs.Build.{builtSheet}
 use Rattle.session.specs.Session.{freshSession}
 use Rattle.session.specs.Step.{won, nextK, lowersWin, partyAfter, marksAfter, publishedAfter}
 use Rattle.session.specs.declared.state.Session.{Session}

@@ -7,9 +7,9 @@ use lib.ListN.{getD}
 use Rattle.agreement.specs.Demand.{Opens, Demand, OfReached, OfSchedule, OfCalls, OfAll, OfBuilt}
 use Rattle.session.specs.Reach.{here, Reached}
 use Rattle.session.specs.Run.{byteOk, ran}
-use Rattle.sheet.specs.Build.{builtSheet}
 use Rattle.sheet.specs.Lists.{all}
 use Rattle.sheet.specs.Words.{Rules6}
+use Rattle.builder.specs.Build.{builtSheet}
 use Rattle.session.proofs.Agreement.{agreement}
 use Rattle.session.proofs.Enough.{enough}
 use Rattle.session.proofs.Obeying.{obeyed-reached}
@@ -17,7 +17,8 @@ use Rattle.session.proofs.Openings.{opens}
 use Rattle.session.proofs.RunCalls.{run-calls, run-told}
 use Rattle.session.proofs.StepLimits.{reached-limit, reached-decides}
 use Rattle.session.proofs.Tally.{steps-acts}
-use Rattle.sheet.proofs.Theorems.{answers, built-says}
+use Rattle.sheet.proofs.Theorems.{answers}
+use Rattle.builder.proofs.Theorems.{built-says}
 
 pub rules : {sheet proposals : List ℕ} → Opens sheet proposals → Rules6 sheet
 rules {sheet} o = answers sheet .accepted .0 (o .accepted)

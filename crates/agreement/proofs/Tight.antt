@@ -3,7 +3,7 @@ use Prim.Native.Nat.{ℕ}
 use mathlib.Core.Path.{_≡_, refl}
 use mathlib.Core.List.{List, [], _∷_, _++_}
 use lib.ListN.{take, replicate}
-use Rattle.sheet.specs.Build.{builtSheet}
+use Rattle.builder.specs.Build.{builtSheet}
 use Rattle.session.specs.Session.{partyOf}
 use Rattle.session.specs.Step.{won, nextK, lowersWin, partyAfter, marksAfter, publishedAfter, step, stop}
 use Rattle.session.specs.Run.{ran}

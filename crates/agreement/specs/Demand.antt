@@ -7,8 +7,8 @@ use lib.Dec.{T, eqb}
 use Rattle.sheet.specs.Lists.{all}
 use Rattle.sheet.specs.Bytes.{num}
 use Rattle.sheet.specs.Check.{checkAnswer, done}
-use Rattle.sheet.specs.Build.{builtSheet}
-use Rattle.sheet.specs.Given.{Given}
+use Rattle.builder.specs.Build.{builtSheet}
+use Rattle.builder.specs.Given.{Given}
 use Rattle.session.specs.Calls.{Told, opened, openAnswer}
 use Rattle.session.specs.Run.{byteOk, recordLength, runAnswer, ran, runOut}
 use Rattle.session.specs.Trace.{called, calledTold, acts, stepsBefore}

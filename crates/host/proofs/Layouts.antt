@@ -8,7 +8,7 @@ use lib.Seq.{take-at, take-add, take-all, drop-at, drop-cons, drop-drop, length-
 use Rattle.sheet.specs.Lists.{from}
 use Rattle.sheet.specs.Bytes.{num, bytesOf}
 use Rattle.sheet.proofs.Numbers.{num-bytes, num-below}
-use Rattle.sheet.proofs.Written.{length-flat}
+use Rattle.builder.proofs.Written.{length-flat}
 use Rattle.session.specs.Session.{noParty}
 use Rattle.session.specs.declared.state.Party.{Party}
 use Rattle.session.specs.declared.state.Session.{Session}

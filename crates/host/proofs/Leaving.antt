@@ -12,8 +12,8 @@ use Rattle.sheet.specs.Bytes.{num}
 use Rattle.sheet.specs.Lists.{firstBad}
 use Rattle.sheet.specs.Rows.{sheetLength}
 use Rattle.sheet.specs.Check.{Answer, answer, done, numbersOk, checkAnswer}
-use Rattle.sheet.specs.Build.{given, builtSheet, buildAnswer, outAfter}
-use Rattle.sheet.proofs.Theorems.{built-says}
+use Rattle.builder.specs.Build.{given, builtSheet, buildAnswer, outAfter}
+use Rattle.builder.proofs.Theorems.{built-says}
 use Rattle.session.specs.Session.{freshSession}
 use Rattle.session.specs.Calls.{Told, told, openAnswer}
 use Rattle.session.specs.Run.{byteOk, recordLength, recordBytes, runAnswer, ran, runOut}

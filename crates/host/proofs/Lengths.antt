@@ -10,7 +10,7 @@ use lib.Seq.{length-take-le}
 use Rattle.sheet.specs.Check.{within}
 use Rattle.sheet.specs.Rows.{slot}
 use Rattle.sheet.specs.Rules.{writes}
-use Rattle.sheet.proofs.Written.{length-flat}
+use Rattle.builder.proofs.Written.{length-flat}
 use Rattle.session.specs.Session.{freshSession, layout, partyOf, cell}
 use Rattle.session.specs.Step.{Place, announce, publish, write, readTop, readOwn, readPair, fetch, decide, done, placeOf, counted, partyAfter}
 use Rattle.session.specs.Step.{marksAfter, publishedAfter, acted, step, stoppedParty, stop}

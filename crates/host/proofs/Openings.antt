@@ -12,15 +12,15 @@ use Rattle.sheet.specs.Lists.{flat}
 use Rattle.sheet.specs.Bytes.{num, bytesOf}
 use Rattle.sheet.specs.Rows.{slot, slots, sheetLength}
 use Rattle.sheet.specs.Check.{Answer, answer, done, checkAnswer}
-use Rattle.sheet.specs.Build.{rowBytes, headerBytes, builtRow, builtUnits, builtSheet}
-use Rattle.sheet.specs.Given.{Given}
 use Rattle.sheet.specs.declared.rows.Row.{Row}
 use Rattle.sheet.specs.declared.rows.Slot.{Slot}
+use Rattle.builder.specs.Build.{rowBytes, headerBytes, builtRow, builtUnits, builtSheet}
+use Rattle.builder.specs.Given.{Given}
 use Rattle.sheet.proofs.Folds.{lt-or-le, held}
-use Rattle.sheet.proofs.Givens.{given-ranges}
 use Rattle.sheet.proofs.Numbers.{num-below}
 use Rattle.sheet.proofs.Says.{past-6}
-use Rattle.sheet.proofs.Theorems.{built-says}
+use Rattle.builder.proofs.Givens.{given-ranges}
+use Rattle.builder.proofs.Theorems.{built-says}
 use Rattle.session.specs.Session.{freshSession}
 use Rattle.session.proofs.Copies.{length-range, range-at}
 use Rattle.session.proofs.FormWords.{accepted-says}

@@ -13,8 +13,8 @@ use lib.Seq.{length-take-le}
 use Rattle.sheet.specs.Lists.{from, firstBad}
 use Rattle.sheet.specs.Rows.{layoutOf, slot, slots, sheetLength}
 use Rattle.sheet.specs.Check.{Answer, answer, done, within, numbersOk, headerOk, lengthOk, checkAnswer}
-use Rattle.sheet.specs.Build.{given, buildAnswer}
 use Rattle.sheet.specs.declared.rows.Slot.{Slot}
+use Rattle.builder.specs.Build.{given, buildAnswer}
 use Rattle.sheet.proofs.Folds.{held, lt-or-le}
 use Rattle.sheet.proofs.FirstBad.{first-found}
 use Rattle.sheet.proofs.Slots.{length-slots, count-most}

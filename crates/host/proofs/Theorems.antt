@@ -7,7 +7,7 @@ use lib.Dec.{T}
 use lib.ListN.{length, getD}
 use Rattle.sheet.specs.Lists.{all}
 use Rattle.sheet.specs.Check.{done}
-use Rattle.sheet.specs.Build.{builtSheet}
+use Rattle.builder.specs.Build.{builtSheet}
 use Rattle.session.specs.Session.{partyOf}
 use Rattle.session.specs.Run.{byteOk, ran}
 use Rattle.session.specs.Reach.{stepLimit, Reached, here}

@@ -7,8 +7,8 @@ use lib.ListN.{length, getD}
 use lib.Dec.{eqb}
 use Rattle.sheet.specs.Bytes.{num}
 use Rattle.sheet.specs.Check.{done, within}
-use Rattle.sheet.specs.Build.{builtSheet}
-use Rattle.sheet.specs.Given.{Given}
+use Rattle.builder.specs.Build.{builtSheet}
+use Rattle.builder.specs.Given.{Given}
 use Rattle.session.specs.Reach.{stepLimit}
 use Rattle.host.specs.Word.{toldWord}
 use Rattle.host.specs.Layout.{Below}

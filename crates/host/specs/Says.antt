@@ -6,7 +6,7 @@ use mathlib.Core.List.{List}
 use lib.ListN.{length, getD, drop}
 use Rattle.sheet.specs.Rows.{sheetLength}
 use Rattle.sheet.specs.Check.{Answer, checkAnswer}
-use Rattle.sheet.specs.Build.{buildAnswer, outAfter}
+use Rattle.builder.specs.Build.{buildAnswer, outAfter}
 use Rattle.session.specs.Calls.{Told}
 use Rattle.session.specs.Run.{recordLength}
 use Rattle.host.specs.Word.{answerWord, toldWord}

@@ -8,7 +8,7 @@ ghost use Prim.Native.Nat.{_<_};
 ghost use lib.ListN.{length};
 ghost use lib.Dec.{eqb};
 ghost use Rattle.sheet.specs.Check.{checkAnswer};
-ghost use Rattle.sheet.specs.Build.{buildAnswer, outAfter};
+ghost use Rattle.builder.specs.Build.{buildAnswer, outAfter};
 ghost use Rattle.session.specs.Calls.{toldOf};
 ghost use Rattle.session.specs.Run.{runAnswer};
 ghost use Rattle.host.specs.Word.{answerWord, toldWord};
@@ -36,7 +36,7 @@ pub extern "C" fn sepalsail_build(kind: u32, bound: u32, parties: u32, out: &mut
     ensures { λ w. ⌜ w ≡ answerWord (buildAnswer kind bound parties (length (now (out .entry)))) ⌝ }
     ensures { λ _. ⌜ now (out .exit) ≡ outAfter kind bound parties (now (out .entry)) ⌝ }
 {
-    words::verdict(sheet::build(kind, bound, parties, out))
+    words::verdict(builder::build(kind, bound, parties, out))
 }
 
 // Opens a session on a sheet, with a proposal of 4 bytes for each party, and fills its 3,418 bytes; a refusal changes nothing.

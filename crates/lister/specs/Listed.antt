@@ -4,8 +4,8 @@ use mathlib.Core.List.{List, [], _∷_}
 use mathlib.Core.Bool.{cond}
 use lib.ListN.{length, replicate}
 use lib.Dec.{eqb}
-use Rattle.sheet.specs.Build.{builtSheet}
 use Rattle.sheet.specs.Check.{Answer}
+use Rattle.builder.specs.Build.{builtSheet}
 use Rattle.session.specs.Run.{recordLength, runAnswer, runOut}
 use Rattle.lister.specs.Text.{listing, refusedText}
 

@@ -15,7 +15,7 @@ pub(crate) fn list(schedule: &[u8], out: &mut [u8]) -> usize
     ensures { λ _. ⌜ now (out .exit) ≡ listed (now (schedule .entry)) ++ drop (length (listed (now (schedule .entry)))) (now (out .entry)) ⌝ }
 {
     let mut layout = [0u8; 36];
-    sheet::build(1, 3, 2, &mut layout);
+    builder::build(1, 3, 2, &mut layout);
     let proposals = [500u32, 600];
     let mut bytes = [0u8; 18];
     match runs::run(&layout, &proposals, schedule, &mut bytes) {

@@ -8,8 +8,8 @@ use lib.ListN.{length, getD, take, drop}
 use lib.Seq.{drop-drop, drop-append-add, length-take-le}
 use borrow.Rule.Slice.PartMut.{putMid}
 use Rattle.sheet.specs.Lists.{flat}
-use Rattle.sheet.proofs.Parts.{written-behind}
-use Rattle.sheet.proofs.Written.{flat-taken, length-flat}
+use Rattle.builder.proofs.Parts.{written-behind}
+use Rattle.builder.proofs.Written.{flat-taken, length-flat}
 use Rattle.session.specs.Run.{partyBytes, recordLength, recordHead, recordBytes}
 use Rattle.session.specs.declared.state.Party.{Party}
 

@@ -3,7 +3,7 @@ use Rattle.session.specs.Step.{won, nextK, lowersWin, partyAfter, marksA
 use mathlib.Core.Path.{_≡_, refl}
 use mathlib.Core.List.{[], _∷_}
 use lib.ListN.{replicate}
-use Rattle.sheet.specs.Build.{builtSheet}
+use Rattle.builder.specs.Build.{builtSheet}
 use Rattle.session.specs.Run.{runOut}
 use Rattle.session.specs.Worked.{cases, Every}
 

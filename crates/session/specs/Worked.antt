@@ -5,7 +5,7 @@ use mathlib.Core.List.{List, [], _∷_, _++_}
 use lib.ListN.{take, replicate}
 use Rattle.sheet.specs.Bytes.{bytesOf}
 use Rattle.sheet.specs.Check.{answer, done}
-use Rattle.sheet.specs.Build.{builtSheet, buildAnswer}
+use Rattle.builder.specs.Build.{builtSheet, buildAnswer}
 use Rattle.session.specs.Run.{recordLength, recordHead, runAnswer, runOut}
 
 -- what a party ends with: status, own steps, decision

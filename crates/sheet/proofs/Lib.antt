@@ -13,13 +13,4 @@ pub mod Ascending
 pub mod Quick
 pub mod Reader
 pub mod RowLoop
-pub mod Givens
-pub mod Masks
-pub mod Kind1
-pub mod Kind2
-pub mod Built
-pub mod Parts
-pub mod Written
-pub mod ReadBack
-pub mod Keeps
 pub mod Theorems

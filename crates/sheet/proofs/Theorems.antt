@@ -1,43 +1,18 @@
--- What the promises rest on for a reader: each statement of `specs/Says.antt`, the worked sheet, and that an answer has one case.
+-- What the promises rest on for a reader: the statement of `specs/Says.antt`, and that an answer has one case.
 use Prim.Native.Nat.{ℕ, zero, suc}
 use mathlib.Core.Path.{_≡_, refl, sym, ap, _∙_}
-use mathlib.Core.List.{List, [], _∷_}
+use mathlib.Core.List.{List}
 use Rattle.sheet.specs.Check.{Answer}
-use Rattle.sheet.specs.Build.{builtSheet}
-use Rattle.sheet.specs.Given.{Given}
-use Rattle.sheet.specs.Says.{CheckSays, BuiltSays}
+use Rattle.sheet.specs.Says.{CheckSays}
 use Rattle.sheet.specs.Answers.{answerOf}
 use Rattle.sheet.specs.declared.answer.Refusal.the-variants.{Short, Version, Header, Length, Row, Writer, Proposals, Schedule, Session, Party, Output, NoSheet}
 use Rattle.sheet.specs.declared.answer.Verdict.{Verdict}
 use Rattle.sheet.specs.declared.answer.Verdict.the-variants.{Done, Refused}
 use Rattle.sheet.proofs.Says.{check-says}
-use Rattle.sheet.proofs.ReadBack.{length-sheet, reads-fields, reads-units, reads-row}
-use Rattle.sheet.proofs.Keeps.{built-keeps}
 
 -- every answer of the check, and what it says
 pub answers : (s : List ℕ) → CheckSays s
 answers = check-says
-
--- every sheet that the builder writes reads back, and is accepted
-pub built-says : (kind bound n : ℕ) → Given kind bound n → BuiltSays kind bound n
-built-says kind bound n g =
-    let fields = reads-fields kind bound n g in
-    record {
-      whole = length-sheet kind bound n g;
-      readKind = fields .1;
-      readBound = fields .2;
-      readParties = fields .3;
-      readUnits = reads-units kind bound n g;
-      readRows = reads-row kind bound n g;
-      accepted = check-says (builtSheet kind bound n) .accepted .1 (built-keeps kind bound n g);
-    }
-
--- the sheet of document 01 for kind 1, B = 3, N = 2, byte by byte
-pub worked-sheet : builtSheet 1 3 2
-    ≡ 0x00 ∷ 0x24 ∷ 0x01 ∷ 0x01 ∷ 0x03 ∷ 0x02 ∷ 0x00 ∷ 0x06
-    ∷ 0x00 ∷ 0x02 ∷ 0x00 ∷ 0x00 ∷ 0x00 ∷ 0x00 ∷ 0x00 ∷ 0x00 ∷ 0x00 ∷ 0x03 ∷ 0x00 ∷ 0x02 ∷ 0x00 ∷ 0x03
-    ∷ 0x00 ∷ 0x03 ∷ 0x00 ∷ 0x00 ∷ 0x00 ∷ 0x00 ∷ 0x00 ∷ 0x00 ∷ 0x00 ∷ 0x07 ∷ 0x00 ∷ 0x04 ∷ 0x00 ∷ 0x00 ∷ []
-worked-sheet = refl
 
 -- ---- any two answers that a promise permits are equal: a number and a position have one case
 

@@ -6,9 +6,7 @@ pub mod Length
 pub mod Rows
 pub mod Rules
 pub mod Check
-pub mod Build
 pub mod Answers
 pub mod Words
 pub mod Quick
-pub mod Given
 pub mod Says

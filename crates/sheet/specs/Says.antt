@@ -1,14 +1,11 @@
--- What the answers tell: the statements about the check and the builder, each proved in `proofs/Theorems.antt`.
+-- What the answers tell: the statements about the check, proved in `proofs/Theorems.antt`.
 use Prim.Native.Nat.{ℕ}
 use mathlib.Core.Path.{_≡_}
 use mathlib.Core.List.{List}
 use mathlib.Core.Logic.{_↔_}
-use lib.ListN.{length}
-use Rattle.sheet.specs.Rows.{layoutOf, sheetLength}
+use Rattle.sheet.specs.Rows.{layoutOf}
 use Rattle.sheet.specs.Check.{checkAnswer, answer, done}
-use Rattle.sheet.specs.Build.{built, builtRow, builtSheet}
-use Rattle.sheet.specs.Words.{IsSlot, RowRule, WriterRule, FirstFailing, Rules1, Rules2, Rules3, Rules4, Rules5, Rules6}
-use Rattle.sheet.specs.declared.rows.Slot.{Slot}
+use Rattle.sheet.specs.Words.{RowRule, WriterRule, FirstFailing, Rules1, Rules2, Rules3, Rules4, Rules5, Rules6}
 
 -- every answer of the check of s, and what it says: accepted exactly if every rule holds; refused with n exactly if the rules before n hold and n's does not,
 -- with the first failing row for 5 and 6, else 0
@@ -20,13 +17,3 @@ pub record CheckSays (s : List ℕ) : Type 0 where
   pub four : checkAnswer s ≡ answer 4 0 ↔ Rules3 s × (Rules4 s → ⊥)
   pub five : (k : ℕ) → checkAnswer s ≡ answer 5 k ↔ Rules4 s × FirstFailing RowRule (layoutOf s) k
   pub six : (k : ℕ) → checkAnswer s ≡ answer 6 k ↔ Rules5 s × FirstFailing WriterRule (layoutOf s) k
-
--- a built sheet reads back as what the rules spell out, and is accepted
-pub record BuiltSays (kind bound n : ℕ) : Type 0 where
-  pub whole : length (builtSheet kind bound n) ≡ sheetLength n
-  pub readKind : layoutOf (builtSheet kind bound n) .kind ≡ kind
-  pub readBound : layoutOf (builtSheet kind bound n) .bound ≡ bound
-  pub readParties : layoutOf (builtSheet kind bound n) .parties ≡ n
-  pub readUnits : layoutOf (builtSheet kind bound n) .units ≡ built kind bound n .units
-  pub readRows : (p : Slot) → IsSlot n p → layoutOf (builtSheet kind bound n) .row p ≡ builtRow kind bound p
-  pub accepted : checkAnswer (builtSheet kind bound n) ≡ done

@@ -1,6 +1,5 @@
-// Layout sheets: their check, their builder, and the reader of their rows.
+// Layout sheets: their check, and the reader of their rows.
 mod answer;
-mod building;
 mod bytes;
 pub mod rows;
 mod rules;
@@ -8,10 +7,9 @@ mod sets;
 
 pub use answer::Refusal;
 pub use answer::Verdict;
+pub use rules::numbers_ok;
 ghost use mathlib.Core.Path.{_≡_};
-ghost use lib.ListN.{length};
 ghost use Rattle.sheet.specs.Check.{checkAnswer};
-ghost use Rattle.sheet.specs.Build.{buildAnswer, outAfter};
 ghost use Rattle.sheet.specs.Answers.{answerOf};
 
 // Whether a sheet is accepted: the first rule that fails, in document 01's order.
@@ -38,23 +36,5 @@ pub fn check(sheet: &[u8]) -> Verdict
     if clash != 0 {
         return Verdict::Refused(Refusal::Writer(clash));
     }
-    Verdict::Done
-}
-
-// Writes the sheet for these numbers; bytes past it keep their content, and a refusal changes nothing.
-pub fn build(kind: u32, bound: u32, parties: u32, out: &mut [u8]) -> Verdict
-    ensures { λ r. ⌜ answerOf r ≡ buildAnswer kind bound parties (length (now (out .entry))) ⌝ }
-    ensures { λ _. ⌜ now (out .exit) ≡ outAfter kind bound parties (now (out .entry)) ⌝ }
-{
-    if !rules::numbers_ok(kind, bound, parties) {
-        return Verdict::Refused(Refusal::Header);
-    }
-    if !building::is_given(kind, bound, parties) {
-        return Verdict::Refused(Refusal::NoSheet);
-    }
-    if out.len() < rows::sheet_length(parties as usize) {
-        return Verdict::Refused(Refusal::Output);
-    }
-    building::put_sheet(out, kind, bound, parties);
     Verdict::Done
 }

@@ -24,7 +24,7 @@ fn is_within(lo: u32, hi: u32, x: u32) -> bool
 }
 
 // Kind 1 or 2, bound 1 to 64, parties 1 to 16.
-pub(crate) fn numbers_ok(kind: u32, bound: u32, parties: u32) -> bool
+pub fn numbers_ok(kind: u32, bound: u32, parties: u32) -> bool
     ensures { λ r. ⌜ r ≡ numbersOk kind bound parties ⌝ }
 {
     if !is_within(1, 2, kind) {

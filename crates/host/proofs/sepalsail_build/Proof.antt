@@ -1,4 +1,4 @@
--- The word is that of the answer which `sheet::build` promises.
+-- The word is that of the answer which `builder::build` promises.
 use borrow.Author.Needs.{needs}
 use mathlib.Core.Path.{ap, _∙_}
 use Rattle.sheet.specs.Check.{Answer}

@@ -1,0 +1,135 @@
+-- The loop's invariant: the header and k rows stand written, p is the next row's, and past them all is as it was; a turn writes one row more.
+use mathlib.Core.Path.{_≡_, refl, sym, _∙_}
+use mathlib.Core.List.{_++_}
+use Prim.Native.Nat.{_+_, _*_, _-_, _≤_}
+use native.Mathlib.Omega.{arith}
+use lib.ListN.{length, drop, length-take, length-drop}
+use borrow.Author.Needs.{needs}
+use Rattle.sheet.specs.Rows.{rowCount}
+use Rattle.sheet.specs.Words.{IsSlot}
+use Rattle.sheet.proofs.Slots.{AtRow, at-first, at-next, at-slot}
+use Rattle.builder.proofs.Givens.{given-ranges}
+use Rattle.builder.proofs.Written.{written, opening, turn, closing}
+use Rattle.builder.proofs.building.put_sheet.Statement.{statement}
+use Rattle.builder.proofs.building.put_sheet.Tie as tie
+
+abbrev Inv-loop : tie.InvT-loop
+Inv-loop out₀ kind bound parties count p₀ k₀ out p k =
+    (AtRow k p) × (k ≤ rowCount parties) × (length out ≡ length out₀) × (out ≡ written kind bound parties k ++ drop (8 + 14 * k) out₀)
+
+abbrev μ-loop : tie.MeasureT-loop
+μ-loop out₀ kind bound parties count p₀ k₀ out p k = count - k
+
+put-header-requires : tie.Need-put-header-requires Inv-loop μ-loop
+put-header-requires c κs = (c .before .before .pre .0, search needs)
+
+row-count-requires : tie.Need-row-count-requires Inv-loop μ-loop
+row-count-requires c κs = let r = given-ranges (c .before .before .before .before .before .pre .0) in (r .partiesLeast, omega arith)
+
+first-requires : tie.Need-first-requires Inv-loop μ-loop
+first-requires c κs = search needs
+
+loop-holds : tie.Need-loop-holds Inv-loop μ-loop
+loop-holds c =
+    let head = c .before .before .before .before in
+    let args = head .before .before .before .args in (
+      rw (c .first .ensures) at-first,
+      omega arith,
+      refl,
+      opening (args .kind) (args .bound) (args .parties) (args .out .now) (head .put-header .last .0) (head .put-header .ensures),
+    )
+
+-- the function's entry, as a turn sees it
+abbrev entry : tie.In-loop Inv-loop μ-loop → tie.Start Inv-loop μ-loop
+entry c = c .before .before .before .before .before .before .before .before .before
+
+-- whose the turn's row is
+row-of : (c : tie.In-loop Inv-loop μ-loop) → IsSlot (entry c .args .parties) (c .before .loop .p)
+row-of c = at-slot (entry c .args .parties) (c .before .loop .k) (c .before .loop .p) (c .before .loop .inv .0) (omega arith)
+
+built-row-requires : tie.Need-built-row-requires Inv-loop μ-loop
+built-row-requires c κs = (entry c .pre .0, row-of c, sym (c .before .loop .inv .0 .number))
+
+mul-at : tie.Need-mul-at Inv-loop μ-loop
+mul-at c = search needs
+
+add-at : tie.Need-add-at Inv-loop μ-loop
+add-at c = search needs
+
+sub-put-row : tie.Need-sub-put-row Inv-loop μ-loop
+sub-put-row c = search needs
+
+part-put-row-start : tie.Need-part-put-row-start Inv-loop μ-loop
+part-put-row-start c = search needs
+
+part-put-row-end : tie.Need-part-put-row-end Inv-loop μ-loop
+part-put-row-end c = search needs
+
+put-row-requires : tie.Need-put-row-requires Inv-loop μ-loop
+put-row-requires c κs = simp (length-take, length-drop) (omega arith)
+
+next-slot-requires : tie.Need-next-slot-requires Inv-loop μ-loop
+next-slot-requires c κs =
+    let turn = c .before .before .before .before .before in
+    let s = row-of turn in
+    let r = given-ranges (entry turn .pre .0) in
+    omega arith
+
+add-k : tie.Need-add-k Inv-loop μ-loop
+add-k c = search needs
+
+loop-less : tie.Need-loop-less Inv-loop μ-loop
+loop-less c = search needs
+
+loop-again : tie.Need-loop-again Inv-loop μ-loop
+loop-again c =
+    let call = c .before .before .before in
+    let in-loop = call .before .before .before in
+    let l = in-loop .before .loop in
+    let head = in-loop .before .before .before .before .before .before in
+    let args = entry in-loop .args in
+    let row = call .before .before .built-row in
+    let r = given-ranges (entry in-loop .pre .0) in (
+      rw (c .next-slot .ensures) (at-next (l .k) (l .p) (l .inv .0)),
+      omega arith,
+      omega (arith, c .before .before .out2 .given .1),
+      turn (args .kind) (args .bound) (args .parties) (l .k) (l .p) (row .result) (head .put-header .last .0) (l .out) (call .put-row .last .0)
+          (r .partiesLeast) (l .inv .0) (omega arith) (row .ensures) (l .inv .3) (call .put-row .ensures),
+    )
+
+same-length : tie.Need-same-length Inv-loop μ-loop
+same-length c = c .before .loop .inv .2 ∙ c .before .before .before .before .before .before .put-header .kept .0
+
+returns : tie.Need-returns Inv-loop μ-loop
+returns c =
+    let l = c .before .loop in
+    let head = c .before .before .before .before .before .before in
+    let start = head .before .before .before in
+    let args = start .args in
+    let r = given-ranges (start .pre .0) in
+    closing (args .kind) (args .bound) (args .parties) (l .k) (args .out .now) (head .put-header .last .0) (l .out)
+    (r .partiesLeast) (omega arith) (head .put-header .ensures) (l .inv .3)
+
+pub put-sheet-spec : {M : Type 1} → statement M
+put-sheet-spec =
+    tie.close
+    (tie.spec
+    Inv-loop
+    μ-loop
+    put-header-requires
+    row-count-requires
+    first-requires
+    loop-holds
+    built-row-requires
+    mul-at
+    add-at
+    sub-put-row
+    part-put-row-start
+    part-put-row-end
+    put-row-requires
+    next-slot-requires
+    add-k
+    loop-less
+    loop-again
+    same-length
+    returns)

@@ -1,0 +1,27 @@
+// The sheets that the library writes.
+mod building;
+
+ghost use mathlib.Core.Path.{_≡_};
+ghost use lib.ListN.{length};
+ghost use Rattle.sheet.specs.Answers.{answerOf};
+ghost use Rattle.builder.specs.Build.{buildAnswer, outAfter};
+use sheet::Refusal;
+use sheet::Verdict;
+
+// Writes the sheet for these numbers; bytes past it keep their content, and a refusal changes nothing.
+pub fn build(kind: u32, bound: u32, parties: u32, out: &mut [u8]) -> Verdict
+    ensures { λ r. ⌜ answerOf r ≡ buildAnswer kind bound parties (length (now (out .entry))) ⌝ }
+    ensures { λ _. ⌜ now (out .exit) ≡ outAfter kind bound parties (now (out .entry)) ⌝ }
+{
+    if !sheet::numbers_ok(kind, bound, parties) {
+        return Verdict::Refused(Refusal::Header);
+    }
+    if !building::is_given(kind, bound, parties) {
+        return Verdict::Refused(Refusal::NoSheet);
+    }
+    if out.len() < building::sheet_length(parties as usize) {
+        return Verdict::Refused(Refusal::Output);
+    }
+    building::put_sheet(out, kind, bound, parties);
+    Verdict::Done
+}

@@ -1,9 +1,0 @@
--- The numbers for which there is a built sheet.
-use Prim.Native.Nat.{ℕ}
-use lib.Dec.{T}
-use Rattle.sheet.specs.Check.{numbersOk}
-use Rattle.sheet.specs.Build.{given}
-
-pub record Given (kind bound n : ℕ) : Type 0 where
-  pub numbers : T (numbersOk kind bound n)
-  pub sheet : T (given kind bound n)
