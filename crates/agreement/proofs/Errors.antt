@@ -3,9 +3,9 @@ use mathlib.Core.Path.{_≡_, refl}
 use mathlib.Core.List.{[], _∷_}
 use Rattle.sheet.specs.Check.{answer, checkAnswer}
 use Rattle.builder.specs.Build.{builtSheet}
-use Rattle.session.specs.Session.{freshSession}
+use Rattle.state.specs.Session.{freshSession}
+use Rattle.state.specs.declared.kept.Session.{Session}
 use Rattle.session.specs.Step.{won, nextK, lowersWin, partyAfter, marksAfter, publishedAfter}
-use Rattle.session.specs.declared.state.Session.{Session}
 use Rattle.agreement.specs.Errors.{stepBy, stepsBy, decisions, candidates, pairFirst, lastMark, publishLate, coveringSheet}
 
 -- two parties on the worked sheet

@@ -8,13 +8,13 @@ use native.Mathlib.Omega.{arith}
 use lib.ListN.{length, getD}
 use Rattle.sheet.specs.Words.{Rules6}
 use Rattle.sheet.proofs.Folds.{lt-or-le}
-use Rattle.session.specs.Session.{layout, partyOf}
+use Rattle.state.specs.Session.{layout, partyOf}
+use Rattle.state.specs.Words.{PartyRule}
+use Rattle.state.specs.declared.kept.Party.{Party}
+use Rattle.state.specs.declared.kept.Session.{Session}
+use Rattle.state.proofs.Filled.{fresh-party}
 use Rattle.session.specs.Step.{step, stop, stoppedParty}
 use Rattle.session.specs.Reach.{Reached, here, by-step, by-stop}
-use Rattle.session.specs.Words.{PartyRule}
-use Rattle.session.specs.declared.state.Party.{Party}
-use Rattle.session.specs.declared.state.Session.{Session}
-use Rattle.session.proofs.Filled.{fresh-party}
 use Rattle.session.proofs.Landing.{party-set}
 use Rattle.session.proofs.Turns.{step-none, step-other, stop-other}
 use Rattle.session.proofs.Changes.{step-live}

@@ -5,11 +5,11 @@ use mathlib.Core.List.{List}
 use lib.Dec.{T}
 use lib.ListN.{getD}
 use Rattle.sheet.specs.Lists.{all}
-use Rattle.session.specs.Session.{partyOf}
+use Rattle.state.specs.Session.{partyOf}
+use Rattle.state.specs.declared.kept.Party.{Party}
 use Rattle.session.specs.Run.{byteOk, ran}
 use Rattle.session.specs.Trace.{stepsBefore}
 use Rattle.session.specs.Reach.{stepLimit}
-use Rattle.session.specs.declared.state.Party.{Party}
 use Rattle.agreement.specs.Demand.{Opens, Demand, OfSchedule}
 use Rattle.agreement.proofs.Theorems.{rules, reached, of-all}
 use Rattle.agreement.proofs.Parties.{has-begun}

@@ -12,11 +12,11 @@ use Rattle.sheet.specs.Bytes.{num}
 use Rattle.sheet.specs.Check.{done}
 use Rattle.sheet.proofs.FirstBad.{first-none}
 use Rattle.sheet.proofs.Numbers.{num-drop, num-bytes}
-use Rattle.session.specs.Session.{noParty, partyOf}
+use Rattle.state.specs.Session.{noParty, partyOf}
+use Rattle.state.specs.declared.kept.Party.{Party}
+use Rattle.state.specs.declared.kept.Session.{Session}
 use Rattle.session.specs.Run.{byteOk, partyBytes, recordHead, recordBytes, recordLength, runAnswer, ran, runOut}
 use Rattle.session.specs.Reach.{Reached}
-use Rattle.session.specs.declared.state.Party.{Party}
-use Rattle.session.specs.declared.state.Session.{Session}
 use Rattle.session.proofs.Openings.{opens}
 use Rattle.session.proofs.RunAnswers.{run-done, out-written}
 use Rattle.agreement.specs.Demand.{Opens, placeIn, statusIn, stepsIn, decisionIn, OfRecord, OfRun}

@@ -4,7 +4,7 @@ use mathlib.Core.Path.{_≡_, refl}
 use mathlib.Core.List.{List, [], _∷_, _++_}
 use lib.ListN.{take, replicate}
 use Rattle.builder.specs.Build.{builtSheet}
-use Rattle.session.specs.Session.{partyOf}
+use Rattle.state.specs.Session.{partyOf}
 use Rattle.session.specs.Step.{won, nextK, lowersWin, partyAfter, marksAfter, publishedAfter, step, stop}
 use Rattle.session.specs.Run.{ran}
 use Rattle.session.specs.Reach.{stepLimit}

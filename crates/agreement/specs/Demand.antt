@@ -9,12 +9,12 @@ use Rattle.sheet.specs.Bytes.{num}
 use Rattle.sheet.specs.Check.{checkAnswer, done}
 use Rattle.builder.specs.Build.{builtSheet}
 use Rattle.builder.specs.Given.{Given}
+use Rattle.state.specs.Session.{freshSession, partyOf}
+use Rattle.state.specs.declared.kept.Session.{Session}
 use Rattle.session.specs.Calls.{Told, opened, openAnswer}
 use Rattle.session.specs.Run.{byteOk, recordLength, runAnswer, ran, runOut}
 use Rattle.session.specs.Trace.{called, calledTold, acts, stepsBefore}
-use Rattle.session.specs.Session.{freshSession, partyOf}
 use Rattle.session.specs.Reach.{Agreed, stepLimit, Reached}
-use Rattle.session.specs.declared.state.Session.{Session}
 
 -- a sheet that the check accepts, and a proposal for each of its parties
 pub record Opens (sheet proposals : List ℕ) : Type 0 where

@@ -5,10 +5,10 @@ use mathlib.Core.Bool.{cond}
 use lib.ListN.{take, set}
 use lib.Dec.{eqb}
 use Rattle.sheet.specs.Rows.{Layout, slot}
-use Rattle.session.specs.Session.{layout, partyOf}
+use Rattle.state.specs.Session.{layout, partyOf}
+use Rattle.state.specs.declared.kept.Party.{Party}
+use Rattle.state.specs.declared.kept.Session.{Session}
 use Rattle.session.specs.Step.{Place, announce, publish, write, readTop, readOwn, readPair, fetch, decide, done, placeOf, goes, nextK, lowersWin, counted, markAt, partyAfter, marksAfter, publishedAfter, isLive}
-use Rattle.session.specs.declared.state.Party.{Party}
-use Rattle.session.specs.declared.state.Session.{Session}
 
 -- what an act makes of a party's own entries
 abbrev pub Rule : Type 0

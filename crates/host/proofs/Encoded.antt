@@ -9,14 +9,14 @@ use lib.Dec.{T}
 use lib.ListN.{length, getD}
 use Rattle.sheet.specs.Check.{within}
 use Rattle.sheet.proofs.Folds.{holds}
+use Rattle.state.specs.Session.{partyOf}
+use Rattle.state.specs.WellFormed.{wellFormed}
+use Rattle.state.specs.declared.kept.Session.{Session}
+use Rattle.state.proofs.FormWords.{well-formed-says}
 use Rattle.session.specs.Step as Rules
-use Rattle.session.specs.Session.{partyOf}
-use Rattle.session.specs.WellFormed.{wellFormed}
 use Rattle.session.specs.Calls.{Told, told, unlessRefused, unlessKept}
 use Rattle.session.specs.Run.{obeyed}
 use Rattle.session.specs.Reach.{Reached}
-use Rattle.session.specs.declared.state.Session.{Session}
-use Rattle.session.proofs.FormWords.{well-formed-says}
 use Rattle.session.proofs.Refusals.{parties-byte, past, answered, no-party}
 use Rattle.session.proofs.Reached.{reached-parties, reached-well-formed}
 use Rattle.agreement.specs.Demand.{Opens}

@@ -5,7 +5,7 @@ use mathlib.Core.List.{List}
 use lib.ListN.{length, take}
 use lib.Seq.{take-at}
 use Rattle.sheet.specs.Bytes.{num}
-use Rattle.session.specs.Session.{filled}
+use Rattle.state.specs.Session.{filled}
 use Rattle.session.proofs.Copies.{length-range}
 use Rattle.host.specs.Layout.{proposalsOf}
 

@@ -8,14 +8,14 @@ use native.Mathlib.Omega.{arith}
 use lib.Dec.{leb, leb→le}
 use lib.ListN.{length, getD, replicate}
 use Rattle.sheet.proofs.Folds.{all-from, lt-or-le}
-use Rattle.session.specs.Session.{noParty, filled, layout, partyOf}
+use Rattle.state.specs.Session.{noParty, filled, layout, partyOf}
+use Rattle.state.specs.Words.{PartyRule, WellFormed}
+use Rattle.state.specs.WellFormed.{isLower}
+use Rattle.state.specs.declared.kept.Party.{Party}
+use Rattle.state.specs.declared.kept.Session.{Session}
+use Rattle.state.proofs.Filled.{replicate-at}
+use Rattle.state.proofs.FormWords.{passed-says, well-formed-says}
 use Rattle.session.specs.Reach.{Reached}
-use Rattle.session.specs.Words.{PartyRule, WellFormed}
-use Rattle.session.specs.WellFormed.{isLower}
-use Rattle.session.specs.declared.state.Party.{Party}
-use Rattle.session.specs.declared.state.Session.{Session}
-use Rattle.session.proofs.Filled.{replicate-at}
-use Rattle.session.proofs.FormWords.{passed-says, well-formed-says}
 use Rattle.session.proofs.Reached.{Lengths, reached-kept, reached-parties, reached-well-formed, reached-lengths}
 use Rattle.agreement.specs.Demand.{Opens}
 use Rattle.agreement.proofs.Theorems.{rules}

@@ -12,10 +12,10 @@ use Rattle.sheet.specs.Answers.{answerOf}
 use Rattle.sheet.specs.declared.answer.Refusal.{Refusal}
 use Rattle.sheet.specs.declared.answer.Verdict.{Verdict}
 use Rattle.sheet.specs.declared.answer.Verdict.the-variants.{Refused}
-use Rattle.session.specs.Session.{freshSession}
+use Rattle.state.specs.Session.{freshSession}
+use Rattle.state.specs.declared.kept.Session.{Session}
+use Rattle.state.proofs.Verdicts.{refused-number}
 use Rattle.session.specs.Calls.{openAnswer, opened}
-use Rattle.session.specs.declared.state.Session.{Session}
-use Rattle.session.proofs.Verdicts.{refused-number}
 use Rattle.host.specs.Word.{answerWord}
 use Rattle.host.specs.Layout.{proposalsOf, sessionBytes}
 use Rattle.host.specs.Calls.{proposalsFor, hostOpen, openBytes}

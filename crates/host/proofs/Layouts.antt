@@ -9,9 +9,9 @@ use Rattle.sheet.specs.Lists.{from}
 use Rattle.sheet.specs.Bytes.{num, bytesOf}
 use Rattle.sheet.proofs.Numbers.{num-bytes, num-below}
 use Rattle.builder.proofs.Written.{length-flat}
-use Rattle.session.specs.Session.{noParty}
-use Rattle.session.specs.declared.state.Party.{Party}
-use Rattle.session.specs.declared.state.Session.{Session}
+use Rattle.state.specs.Session.{noParty}
+use Rattle.state.specs.declared.kept.Party.{Party}
+use Rattle.state.specs.declared.kept.Session.{Session}
 use Rattle.session.proofs.Copies.{range-at}
 use Rattle.host.specs.Layout.{partyBytes, proposalsBytes, partiesBytes, sessionBytes}
 use Rattle.host.specs.Layout.{partyFrom, proposalsOf, partiesFrom, sessionOf, Below, SizedParty, Sized}

@@ -14,13 +14,13 @@ use Rattle.sheet.specs.Rows.{sheetLength}
 use Rattle.sheet.specs.Check.{Answer, answer, done, numbersOk, checkAnswer}
 use Rattle.builder.specs.Build.{given, builtSheet, buildAnswer, outAfter}
 use Rattle.builder.proofs.Theorems.{built-says}
-use Rattle.session.specs.Session.{freshSession}
+use Rattle.state.specs.Session.{freshSession}
+use Rattle.state.specs.declared.kept.Session.{Session}
+use Rattle.state.proofs.Filled.{sheet-most}
+use Rattle.state.proofs.FormWords.{accepted-says}
 use Rattle.session.specs.Calls.{Told, told, openAnswer}
 use Rattle.session.specs.Run.{byteOk, recordLength, recordBytes, runAnswer, ran, runOut}
-use Rattle.session.specs.declared.state.Session.{Session}
 use Rattle.session.proofs.Copies.{length-range}
-use Rattle.session.proofs.Filled.{sheet-most}
-use Rattle.session.proofs.FormWords.{accepted-says}
 use Rattle.host.specs.Layout.{sessionBytes, sessionOf}
 use Rattle.host.specs.Calls.{proposalsFor, hostOpen, openBytes, onSession, bytesAfter}
 use Rattle.host.specs.Says.{Leaves, SamePast}

@@ -11,17 +11,17 @@ use Rattle.sheet.specs.Check.{within}
 use Rattle.sheet.specs.Rows.{slot}
 use Rattle.sheet.specs.Rules.{writes}
 use Rattle.builder.proofs.Written.{length-flat}
-use Rattle.session.specs.Session.{freshSession, layout, partyOf, cell}
+use Rattle.state.specs.Session.{freshSession, layout, partyOf, cell}
+use Rattle.state.specs.WellFormed.{wellFormed}
+use Rattle.state.specs.declared.kept.Party.{Party}
+use Rattle.state.specs.declared.kept.Session.{Session}
+use Rattle.state.proofs.Filled.{filled-length, fresh-length}
 use Rattle.session.specs.Step.{Place, announce, publish, write, readTop, readOwn, readPair, fetch, decide, done, placeOf, counted, partyAfter}
 use Rattle.session.specs.Step.{marksAfter, publishedAfter, acted, step, stoppedParty, stop}
-use Rattle.session.specs.WellFormed.{wellFormed}
 use Rattle.session.specs.Calls.{unlessKept}
 use Rattle.session.specs.Run.{partyBytes, recordLength, recordBytes, entry, obeyed}
-use Rattle.session.specs.declared.state.Party.{Party}
-use Rattle.session.specs.declared.state.Session.{Session}
 use Rattle.session.proofs.Stamps.{length-stamped}
 use Rattle.session.proofs.Changes.{step-either}
-use Rattle.session.proofs.Filled.{filled-length, fresh-length}
 use Rattle.host.proofs.Layouts.{Full}
 
 -- ---- one act

@@ -7,8 +7,8 @@ use mathlib.Core.Logic.{_≢_}
 use borrow.Author.Tests.{eq-eqb, ne-eqb}
 use lib.Dec.{eqb}
 use lib.ListN.{length}
+use Rattle.state.specs.declared.kept.Session.{Session}
 use Rattle.session.specs.Calls.{Told, told}
-use Rattle.session.specs.declared.state.Session.{Session}
 use Rattle.host.specs.Word.{toldWord}
 use Rattle.host.specs.Layout.{sessionBytes, sessionOf}
 use Rattle.host.specs.Calls.{onSession, bytesAfter}

@@ -14,9 +14,9 @@ use Rattle.sheet.specs.Bytes.{num}
 use Rattle.sheet.specs.Check.{Answer, done, headerOk, lengthOk, checkAnswer}
 use Rattle.sheet.proofs.Folds.{held, failed}
 use Rattle.sheet.proofs.Says.{rows, writers}
+use Rattle.state.proofs.FormWords.{accepted-says}
 use Rattle.session.specs.Calls.{openAnswer}
 use Rattle.session.proofs.Copies.{length-range}
-use Rattle.session.proofs.FormWords.{accepted-says}
 use Rattle.host.specs.Layout.{proposalsOf}
 use Rattle.host.specs.Calls.{unlessUnopened, proposalsFor}
 

@@ -21,9 +21,9 @@ use Rattle.sheet.proofs.Numbers.{num-below}
 use Rattle.sheet.proofs.Says.{past-6}
 use Rattle.builder.proofs.Givens.{given-ranges}
 use Rattle.builder.proofs.Theorems.{built-says}
-use Rattle.session.specs.Session.{freshSession}
+use Rattle.state.specs.Session.{freshSession}
+use Rattle.state.proofs.FormWords.{accepted-says}
 use Rattle.session.proofs.Copies.{length-range, range-at}
-use Rattle.session.proofs.FormWords.{accepted-says}
 use Rattle.agreement.specs.Demand.{Opens}
 use Rattle.host.specs.Layout.{sessionBytes, Below}
 use Rattle.host.specs.Calls.{proposalsFor, hostOpen, openBytes}

@@ -20,15 +20,15 @@ use Rattle.sheet.proofs.FirstBad.{first-found}
 use Rattle.sheet.proofs.Slots.{length-slots, count-most}
 use Rattle.sheet.proofs.RuleWords.{header-says}
 use Rattle.sheet.proofs.Says.{rows, writers}
-use Rattle.session.specs.Session.{layout, noParty, partyOf}
+use Rattle.state.specs.Session.{layout, noParty, partyOf}
+use Rattle.state.specs.WellFormed.{wellFormed}
+use Rattle.state.specs.declared.kept.Party.{Party}
+use Rattle.state.specs.declared.kept.Session.{Session}
+use Rattle.state.proofs.Joins.{within-words}
+use Rattle.state.proofs.FormWords.{well-formed-says}
 use Rattle.session.specs.Step.{isLive, stoppedParty, stop, placeActed}
-use Rattle.session.specs.WellFormed.{wellFormed}
 use Rattle.session.specs.Calls.{Told, openAnswer, unlessRefused, stepTold, stopTold, countOf, liveNumber, liveTold}
 use Rattle.session.specs.Run.{byteOk, recordLength, runAnswer}
-use Rattle.session.specs.declared.state.Party.{Party}
-use Rattle.session.specs.declared.state.Session.{Session}
-use Rattle.session.proofs.Joins.{within-words}
-use Rattle.session.proofs.FormWords.{well-formed-says}
 use Rattle.session.proofs.Refusals.{parties-few}
 use Rattle.host.specs.Word.{word}
 use Rattle.host.specs.Layout.{sessionOf}

@@ -7,9 +7,9 @@ use native.Mathlib.Omega.{arith}
 use lib.ListN.{getD, drop}
 use lib.Seq.{drop-drop, getD-drop}
 use Rattle.sheet.proofs.Numbers.{num-drop}
-use Rattle.session.specs.Session.{noParty, partyOf}
-use Rattle.session.specs.declared.state.Party.{Party}
-use Rattle.session.specs.declared.state.Session.{Session}
+use Rattle.state.specs.Session.{noParty, partyOf}
+use Rattle.state.specs.declared.kept.Party.{Party}
+use Rattle.state.specs.declared.kept.Session.{Session}
 use Rattle.session.proofs.Copies.{range-at}
 use Rattle.agreement.proofs.Readings.{Says}
 use Rattle.host.specs.Layout.{partyFrom, sessionBytes, Sized}

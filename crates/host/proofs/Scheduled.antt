@@ -11,12 +11,12 @@ use Rattle.sheet.specs.Lists.{all}
 use Rattle.sheet.specs.Check.{within}
 use Rattle.sheet.proofs.Folds.{or-left, or-right, and-both, held, failed, same-test}
 use Rattle.sheet.proofs.TestWords.{eq-words}
+use Rattle.state.specs.declared.kept.Session.{Session}
+use Rattle.state.proofs.Joins.{within-words}
 use Rattle.session.specs.Step as Rules
 use Rattle.session.specs.Run.{byteOk, entry, obeyed}
 use Rattle.session.specs.Trace as Trace
 use Rattle.session.specs.Reach.{Reached, by-step, by-stop}
-use Rattle.session.specs.declared.state.Session.{Session}
-use Rattle.session.proofs.Joins.{within-words}
 use Rattle.host.specs.Demand.{Call, step, stop, asked, stepsBefore}
 
 -- ---- the schedule of some calls

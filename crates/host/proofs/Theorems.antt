@@ -8,10 +8,10 @@ use lib.ListN.{length, getD}
 use Rattle.sheet.specs.Lists.{all}
 use Rattle.sheet.specs.Check.{done}
 use Rattle.builder.specs.Build.{builtSheet}
-use Rattle.session.specs.Session.{partyOf}
+use Rattle.state.specs.Session.{partyOf}
+use Rattle.state.specs.declared.kept.Session.{Session}
 use Rattle.session.specs.Run.{byteOk, ran}
 use Rattle.session.specs.Reach.{stepLimit, Reached, here}
-use Rattle.session.specs.declared.state.Session.{Session}
 use Rattle.agreement.specs.Demand.{Opens}
 use Rattle.agreement.proofs.Theorems.{rules, reached}
 use Rattle.agreement.proofs.Readings.{read}

@@ -5,10 +5,10 @@ use mathlib.Core.Bool.{cond}
 use lib.ListN.{length, getD, take, drop}
 use lib.Dec.{ltb, eqb}
 use Rattle.sheet.specs.Check.{Answer, answer, done, checkAnswer}
-use Rattle.session.specs.Session.{freshSession}
+use Rattle.state.specs.Session.{freshSession}
+use Rattle.state.specs.declared.kept.Session.{Session}
 use Rattle.session.specs.Calls.{Told, told, stepTold, stepped, stopTold, stopped, liveTold}
 use Rattle.session.specs.Run.{runAnswer, runOut}
-use Rattle.session.specs.declared.state.Session.{Session}
 use Rattle.host.specs.Layout.{proposalsOf, sessionBytes, sessionOf}
 
 -- ---- open and run: sheet, 7

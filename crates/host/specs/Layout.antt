@@ -5,9 +5,9 @@ use mathlib.Core.List.{List, _∷_, _++_, map}
 use lib.ListN.{length, getD, take, drop}
 use Rattle.sheet.specs.Lists.{from, flat}
 use Rattle.sheet.specs.Bytes.{num, bytesOf}
-use Rattle.session.specs.declared.state.Party.{Party}
-use Rattle.session.specs.declared.state.Session.{Session}
-use Rattle.session.specs.Session.{noParty}
+use Rattle.state.specs.Session.{noParty}
+use Rattle.state.specs.declared.kept.Party.{Party}
+use Rattle.state.specs.declared.kept.Session.{Session}
 
 -- a party's 11: status 1, place 1, round 1, k 1, candidate 1, steps 2, decision 4
 abbrev pub partyBytes : Party → List ℕ

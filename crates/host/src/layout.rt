@@ -5,10 +5,10 @@ ghost use mathlib.Core.Logic.{_↔_};
 ghost use Prim.Native.Nat.{ℕ, _+_, _*_, _<_, _≤_};
 ghost use lib.ListN.{length, take, drop};
 ghost use Rattle.sheet.specs.Bytes.{num, bytesOf};
-ghost use Rattle.session.specs.Session.{filled};
+ghost use Rattle.state.specs.Session.{filled};
 ghost use Rattle.host.specs.Layout.{partyBytes, proposalsBytes, partiesBytes, sessionBytes, partyFrom, proposalsOf, partiesFrom, sessionOf};
-use session::state::Party;
-use session::state::Session;
+use state::Party;
+use state::Session;
 
 // The first n bytes, over the n bytes from a place on of another slice.
 fn copy(from: &[u8], n: usize, to: &mut [u8], at: usize)

@@ -16,9 +16,9 @@ ghost use Rattle.host.specs.Layout.{sessionBytes};
 ghost use Rattle.host.specs.Calls.{hostOpen, openBytes, hostStep, stepBytes, hostStop, stopBytes, hostLive, lastIndex, heard, hostRun, runBytes};
 use session::calls;
 use session::opening;
+use session::reply::After;
+use session::reply::Reply;
 use session::runs;
-use session::state::After;
-use session::state::Reply;
 use sheet::Refusal;
 use sheet::Verdict;
 

@@ -3,7 +3,7 @@ ghost use mathlib.Core.Path.{_≡_};
 ghost use Rattle.sheet.specs.Answers.{answerOf, numberOf, positionOf};
 ghost use Rattle.session.specs.Calls.{toldOf};
 ghost use Rattle.host.specs.Word.{word, answerWord, toldWord};
-use session::state::Reply;
+use session::reply::Reply;
 use sheet::Refusal;
 use sheet::Verdict;
 

@@ -8,7 +8,7 @@ use Rattle.sheet.specs.Answers.{numberOf, positionOf, answerOf}
 use Rattle.sheet.specs.declared.answer.Refusal.{Refusal}
 use Rattle.sheet.specs.declared.answer.Verdict.{Verdict}
 use Rattle.sheet.specs.declared.answer.Verdict.the-variants.{Refused}
-use Rattle.session.proofs.Verdicts.{refused-number}
+use Rattle.state.proofs.Verdicts.{refused-number}
 use Rattle.lister.specs.Text.{listing, refusedText}
 use Rattle.lister.specs.Listed.{answered, recorded, listed}
 

@@ -7,16 +7,16 @@ use native.Mathlib.Omega.{arith}
 use native.Mathlib.Decide.{ℕ-discrete}
 use lib.ListN.{length, getD}
 use Rattle.sheet.specs.Words.{Rules6}
-use Rattle.session.specs.Session.{filled, layout, partyOf}
+use Rattle.state.specs.Session.{filled, layout, partyOf}
+use Rattle.state.specs.declared.kept.Party.{Party}
+use Rattle.state.specs.declared.kept.Session.{Session}
+use Rattle.state.proofs.Filled.{filled-front}
 use Rattle.session.specs.Step.{placeOf}
-use Rattle.session.specs.declared.state.Party.{Party}
-use Rattle.session.specs.declared.state.Session.{Session}
 use Rattle.session.specs.Reach.{Agreed}
 use Rattle.session.proofs.Holder.{Announced, Holder, holder-one, holder-least}
 use Rattle.session.proofs.Invariant.{holder-valid}
 use Rattle.session.proofs.Seen.{standing, standsAt, view}
 use Rattle.session.proofs.Turns.{step-decided, stop-decided}
-use Rattle.session.proofs.Filled.{filled-front}
 use Rattle.session.proofs.Kept.{Kept}
 use Rattle.session.proofs.Reached.{Leads, here, by-step, by-stop, Reached, reached-kept, reached-parties}
 

@@ -11,10 +11,10 @@ use lib.ListN.{length, getD, set}
 use lib.Seq.{getD-set-same, getD-set-other, set-set}
 use Rattle.sheet.specs.Rows.{Layout, slot}
 use Rattle.sheet.specs.Rules.{writes}
-use Rattle.session.specs.Session.{layout, noParty, partyOf, cell}
+use Rattle.state.specs.Session.{layout, noParty, partyOf, cell}
+use Rattle.state.specs.declared.kept.Party.{Party}
+use Rattle.state.specs.declared.kept.Session.{Session}
 use Rattle.session.specs.Step.{Place, announce, publish, write, readTop, readOwn, readPair, fetch, decide, done, placeOf, counted, partyAfter, won, nextK, lowersWin, goes, decided, marksAfter, publishedAfter, isLive, acted, step, placeActed, stoppedParty, stop}
-use Rattle.session.specs.declared.state.Party.{Party}
-use Rattle.session.specs.declared.state.Session.{Session}
 use Rattle.session.proofs.Stamps.{getD-passed}
 
 -- ---- the sheet and the proposals

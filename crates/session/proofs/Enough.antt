@@ -11,14 +11,14 @@ use lib.ListN.{length, getD}
 use Rattle.sheet.specs.Lists.{all}
 use Rattle.sheet.specs.Words.{Rules6}
 use Rattle.sheet.proofs.Folds.{and-left, and-right, lt-or-le}
-use Rattle.session.specs.Session.{layout, partyOf}
+use Rattle.state.specs.Session.{layout, partyOf}
+use Rattle.state.specs.declared.kept.Party.{Party}
+use Rattle.state.specs.declared.kept.Session.{Session}
+use Rattle.state.proofs.Filled.{fresh-party}
 use Rattle.session.specs.Step.{step}
 use Rattle.session.specs.Run.{byteOk, entry, obeyed, ran}
 use Rattle.session.specs.Trace.{stepsBefore}
 use Rattle.session.specs.Reach.{Reached, here, stepLimit}
-use Rattle.session.specs.declared.state.Party.{Party}
-use Rattle.session.specs.declared.state.Session.{Session}
-use Rattle.session.proofs.Filled.{fresh-party}
 use Rattle.session.proofs.Turns.{step-other, step-decided, stop-other, stop-decided}
 use Rattle.session.proofs.Changes.{step-live, step-status}
 use Rattle.session.proofs.Reached.{reached-kept, reached-parties, reached-well-formed}

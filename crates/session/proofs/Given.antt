@@ -10,12 +10,12 @@ use borrow.Author.Tests.{eq-eqb, ne-eqb, lt-ltb}
 use lib.Dec.{eqb}
 use lib.ListN.{getD}
 use Rattle.sheet.specs.Words.{Rules6}
-use Rattle.session.specs.Session.{layout, partyOf}
+use Rattle.state.specs.Session.{layout, partyOf}
+use Rattle.state.specs.declared.kept.Party.{Party}
+use Rattle.state.specs.declared.kept.Session.{Session}
+use Rattle.state.proofs.Filled.{fresh-party}
 use Rattle.session.specs.Step.{step, stop}
-use Rattle.session.specs.declared.state.Party.{Party}
-use Rattle.session.specs.declared.state.Session.{Session}
 use Rattle.session.specs.Reach.{stepLimit, given}
-use Rattle.session.proofs.Filled.{fresh-party}
 use Rattle.session.proofs.Kept.{Kept, acted-move}
 use Rattle.session.proofs.Turns.{step-none, step-other, stop-other, stop-ends}
 use Rattle.session.proofs.Reached.{here, by-step, by-stop, Reached, reached-kept, reached-parties}

@@ -7,17 +7,17 @@ use native.Mathlib.Omega.{arith}
 use native.Mathlib.Nat.{mul-le-mul}
 use lib.ListN.{length, getD}
 use Rattle.sheet.specs.Words.{Rules6}
-use Rattle.session.specs.Session.{carried, layout, partyOf, cell}
+use Rattle.state.specs.Session.{carried, layout, partyOf, cell}
+use Rattle.state.specs.Words.{PartyRule, WellFormed}
+use Rattle.state.specs.declared.kept.Party.{Party}
+use Rattle.state.specs.declared.kept.Session.{Session}
+use Rattle.state.proofs.Filled.{carried-copy, carried-rules, carried-parties, filled-past}
 use Rattle.session.specs.Step.{Place, announce, publish, write, readTop, readOwn, readPair, fetch, decide, done, placeOf}
-use Rattle.session.specs.Words.{PartyRule, WellFormed}
-use Rattle.session.specs.declared.state.Party.{Party}
-use Rattle.session.specs.declared.state.Session.{Session}
 use Rattle.session.proofs.Views.{View}
 use Rattle.session.proofs.Justified.{Justified}
 use Rattle.session.proofs.Invariant.{published-fits, candidateOf, candidate-fits}
 use Rattle.session.proofs.Limits.{limit}
 use Rattle.session.proofs.Seen.{standing, standsAt, lower?, LowerRow, where-yes, view}
-use Rattle.session.proofs.Filled.{carried-copy, carried-rules, carried-parties, filled-past}
 use Rattle.session.proofs.Kept.{Kept}
 
 -- round and k in range, by place

@@ -12,11 +12,12 @@ use lib.Seq.{getD-set-other}
 use Rattle.sheet.specs.Rows.{slot}
 use Rattle.sheet.specs.Rules.{writes}
 use Rattle.sheet.specs.Words.{IsSlot, Rules6}
-use Rattle.session.specs.Session.{noParty, filled, carried, layout, partyOf, cell}
+use Rattle.state.specs.Session.{noParty, filled, carried, layout, partyOf, cell}
+use Rattle.state.specs.declared.kept.Party.{Party}
+use Rattle.state.specs.declared.kept.Session.{Session}
+use Rattle.state.proofs.Filled.{carried-rules}
 use Rattle.session.specs.Step.{Place, announce, publish, write, readTop, readOwn, readPair, fetch, decide, done, placeOf}
 use Rattle.session.specs.Step.{counted, stamped, partyAfter, marksAfter, publishedAfter, acted, step, stoppedParty, stop}
-use Rattle.session.specs.declared.state.Party.{Party}
-use Rattle.session.specs.declared.state.Session.{Session}
 use Rattle.session.proofs.Views.{Still, Move}
 use Rattle.session.proofs.Invariant.{Invariant, move-keeps, still-keeps}
 use Rattle.session.proofs.Justified.{Justified}
@@ -27,7 +28,6 @@ use Rattle.session.proofs.Seen.{standing, standsAt, view}
 use Rattle.session.proofs.Landing.{party-set, party-kept}
 use Rattle.session.proofs.Orderly.{Orderly, act-orderly, stop-orderly, done-last}
 use Rattle.session.proofs.Simulation.{moves}
-use Rattle.session.proofs.Filled.{carried-rules}
 
 pub record Marks (units : ℕ) (marks : List ℕ) : Type 0 where
   pub size : length marks ≡ 1024

@@ -9,10 +9,10 @@ use lib.Dec.{ltb, eqb}
 use lib.ListN.{length, getD, set}
 use lib.Seq.{getD-set-same, getD-set-other}
 use Rattle.sheet.specs.Rows.{Layout, slot}
-use Rattle.session.specs.Session.{noParty, partyOf, cell}
+use Rattle.state.specs.Session.{noParty, partyOf, cell}
+use Rattle.state.specs.declared.kept.Party.{Party}
 use Rattle.session.specs.Step.{Place, announce, publish, write, readTop, readOwn, readPair, fetch, decide, done}
 use Rattle.session.specs.Step.{goes, won, nextK, lowersWin, markAt, decided, partyAfter}
-use Rattle.session.specs.declared.state.Party.{Party}
 use Rattle.session.proofs.Limits.{Done}
 use Rattle.session.proofs.Seen.{standing}
 

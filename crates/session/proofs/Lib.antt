@@ -1,14 +1,7 @@
 -- Laws that several proofs cite; each file says its argument in its first line.
 pub mod Stamps
 pub mod RowOf
-pub mod Tested
-pub mod Zeros
-pub mod Joins
-pub mod Carried
-pub mod FormWords
 pub mod Copies
-pub mod Sizes
-pub mod Verdicts
 pub mod Replies
 pub mod Refusals
 pub mod Openings
@@ -29,7 +22,6 @@ pub mod Writing
 pub mod Ways
 pub mod Simulation
 pub mod Orderly
-pub mod Filled
 pub mod Kept
 pub mod Turns
 pub mod InForm

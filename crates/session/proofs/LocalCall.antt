@@ -41,16 +41,16 @@ use denote.Triple.Table.{entered, cited}
 use denote.Triple.Walked.{says, Stays, stay-none, walkOf, goes-none, Walks, ends-at, walked, walk-meets}
 use denote.Exit.{yes}
 use denote.Triple.Clauses.{closing, ensured, lasts}
-use Rattle.session.specs.declared.state.After.{After}
-use Rattle.session.specs.declared.state.Reply.{Reply}
-use Rattle.session.specs.declared.state.Session.{Session}
+use Rattle.state.specs.declared.kept.Session.{Session}
+use Rattle.state.proofs.kept.Session as T
+use Rattle.state.proofs.kept.Session.Laws as T′
+use Rattle.session.specs.declared.reply.After.{After}
+use Rattle.session.specs.declared.reply.Reply.{Reply}
 use Rattle.session.proofs.Lending.{Promise, on-value, Valued, on-lent, Lent, val, vals, val-reply, val-after, lay, lift}
-use Rattle.session.proofs.state.After as S
-use Rattle.session.proofs.state.After.Laws as S′
-use Rattle.session.proofs.state.Reply as R
-use Rattle.session.proofs.state.Reply.Laws as R′
-use Rattle.session.proofs.state.Session as T
-use Rattle.session.proofs.state.Session.Laws as T′
+use Rattle.session.proofs.reply.After as S
+use Rattle.session.proofs.reply.After.Laws as S′
+use Rattle.session.proofs.reply.Reply as R
+use Rattle.session.proofs.reply.Reply.Laws as R′
 use Rattle.session.proofs.calls.step_value as value
 use Rattle.session.proofs.step as lent
 

@@ -11,13 +11,13 @@ use Rattle.sheet.specs.Lists.{from, all}
 use Rattle.sheet.specs.Rows.{layoutOf}
 use Rattle.sheet.specs.Words.{Rules6}
 use Rattle.sheet.proofs.Folds.{lt-or-le}
-use Rattle.session.specs.Session.{freshParty, noParty, filled, freshSession, partyOf}
+use Rattle.state.specs.Session.{freshParty, noParty, filled, freshSession, partyOf}
+use Rattle.state.specs.Words.{PartyRule}
+use Rattle.state.specs.declared.kept.Party.{Party}
+use Rattle.state.specs.declared.kept.Session.{Session}
 use Rattle.session.specs.Step.{placeOf, counted, partyAfter, marksAfter, publishedAfter, stoppedParty}
 use Rattle.session.specs.Run.{byteOk, entry, ran}
-use Rattle.session.specs.Words.{PartyRule}
 use Rattle.session.specs.Ready.{Ready}
-use Rattle.session.specs.declared.state.Party.{Party}
-use Rattle.session.specs.declared.state.Session.{Session}
 use Rattle.session.proofs.Reached.{Reached, here, reached-layout, reached-parties, reached-proposals, reached-well-formed}
 use Rattle.session.proofs.Turns.{step-none}
 use Rattle.session.proofs.Schedules.{all-taken, all-at, obeyed-more}

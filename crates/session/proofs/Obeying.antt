@@ -15,11 +15,11 @@ use Rattle.sheet.specs.Lists.{all}
 use Rattle.sheet.specs.Rows.{Layout}
 use Rattle.sheet.specs.Words.{Rules6}
 use Rattle.sheet.proofs.Folds.{and-left, and-right, or-cases, lt-or-le}
-use Rattle.session.specs.Session.{noParty, layout, partyOf}
+use Rattle.state.specs.Session.{noParty, layout, partyOf}
+use Rattle.state.specs.declared.kept.Party.{Party}
+use Rattle.state.specs.declared.kept.Session.{Session}
 use Rattle.session.specs.Step.{placeOf, counted, partyAfter, marksAfter, publishedAfter, acted, step, stoppedParty, stop}
 use Rattle.session.specs.Run.{byteOk, entry, obeyed}
-use Rattle.session.specs.declared.state.Party.{Party}
-use Rattle.session.specs.declared.state.Session.{Session}
 use Rattle.session.proofs.Reached.{Reached, by-step, by-stop}
 
 -- ---- a good byte

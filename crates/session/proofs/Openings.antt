@@ -8,9 +8,9 @@ use borrow.Author.Tests.{eq-eqb, ne-eqb}
 use lib.Dec.{eqb}
 use lib.ListN.{length, getD}
 use Rattle.sheet.specs.Check.{Answer, answer, done, checkAnswer}
-use Rattle.session.specs.Session.{freshSession}
+use Rattle.state.specs.Session.{freshSession}
+use Rattle.state.specs.declared.kept.Session.{Session}
 use Rattle.session.specs.Calls.{openAnswer, opened}
-use Rattle.session.specs.declared.state.Session.{Session}
 
 -- the session and the answer, by the tests
 module _ (w b : Bool) (a : Answer) (fresh blank : Session) where

@@ -9,9 +9,9 @@ use borrow.Author.Tests.{eqb-true, eqb-false}
 use lib.Dec.{eqb}
 use lib.ListN.{getD}
 use Rattle.sheet.specs.Rows.{Layout}
-use Rattle.session.specs.Session.{freshParty}
+use Rattle.state.specs.Session.{freshParty}
+use Rattle.state.specs.declared.kept.Party.{Party}
 use Rattle.session.specs.Step.{Place, placeOf, counted, partyAfter, stoppedParty}
-use Rattle.session.specs.declared.state.Party.{Party}
 use Rattle.session.proofs.Limits.{Done}
 use Rattle.session.proofs.Seen.{standing}
 use Rattle.session.proofs.Landing.{Placed, Landing, lands}

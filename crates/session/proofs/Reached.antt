@@ -6,18 +6,18 @@ use native.Mathlib.Omega.{arith}
 use lib.ListN.{length, getD, length-replicate}
 use Rattle.sheet.specs.Rows.{layoutOf, slot}
 use Rattle.sheet.specs.Words.{Rules6}
-use Rattle.session.specs.Session.{freshParty, filled, freshSession, carried, layout, partyOf, cell}
-use Rattle.session.specs.Words.{WellFormed}
+use Rattle.state.specs.Session.{freshParty, filled, freshSession, carried, layout, partyOf, cell}
+use Rattle.state.specs.Words.{WellFormed}
+use Rattle.state.specs.declared.kept.Party.{Party}
+use Rattle.state.specs.declared.kept.Session.{Session}
+use Rattle.state.proofs.Filled.{replicate-at, freshParties, fresh-length, fresh-party, fresh-past}
+use Rattle.state.proofs.Filled.{filled-length, sheet-most, carried-copy, carried-parties}
 pub use Rattle.session.specs.Reach.{Leads, here, by-step, by-stop, Reached}
-use Rattle.session.specs.declared.state.Party.{Party}
-use Rattle.session.specs.declared.state.Session.{Session}
 use Rattle.session.proofs.Views.{Opened}
 use Rattle.session.proofs.Invariant.{opened-invariant}
 use Rattle.session.proofs.Limits.{opened-limited}
 use Rattle.session.proofs.Seen.{standsAt, row?, lower?, where-zero, view}
 use Rattle.session.proofs.Orderly.{fresh-orderly}
-use Rattle.session.proofs.Filled.{replicate-at, freshParties, fresh-length, fresh-party, fresh-past}
-use Rattle.session.proofs.Filled.{filled-length, sheet-most, carried-copy, carried-parties}
 use Rattle.session.proofs.Kept.{Kept, step-kept, stop-kept}
 use Rattle.session.proofs.InForm.{kept-in-form}
 

@@ -10,8 +10,8 @@ use borrow.Rule.Slice.PartMut.{putMid}
 use Rattle.sheet.specs.Lists.{flat}
 use Rattle.builder.proofs.Parts.{written-behind}
 use Rattle.builder.proofs.Written.{flat-taken, length-flat}
+use Rattle.state.specs.declared.kept.Party.{Party}
 use Rattle.session.specs.Run.{partyBytes, recordLength, recordHead, recordBytes}
-use Rattle.session.specs.declared.state.Party.{Party}
 
 module _ (n : ℕ) (ps : List Party) where
   -- the head and the first k parties

@@ -8,14 +8,14 @@ use lib.ListN.{getD}
 use Rattle.sheet.specs.Check.{within}
 use Rattle.sheet.specs.Words.{Rules6}
 use Rattle.sheet.proofs.Folds.{holds, held}
-use Rattle.session.specs.Session.{carried, layout}
-use Rattle.session.specs.WellFormed.{wellFormed}
+use Rattle.state.specs.Session.{carried, layout}
+use Rattle.state.specs.WellFormed.{wellFormed}
+use Rattle.state.specs.declared.kept.Session.{Session}
+use Rattle.state.proofs.Tested.{passed, stopped}
+use Rattle.state.proofs.Joins.{within-words}
+use Rattle.state.proofs.Carried.{carried-parties}
+use Rattle.state.proofs.FormWords.{well-formed-says}
 use Rattle.session.specs.Calls.{Told, told, unlessRefused, unlessKept}
-use Rattle.session.specs.declared.state.Session.{Session}
-use Rattle.session.proofs.Tested.{passed, stopped}
-use Rattle.session.proofs.Joins.{within-words}
-use Rattle.session.proofs.Carried.{carried-parties}
-use Rattle.session.proofs.FormWords.{well-formed-says}
 
 module _ (s : Session) (formed : T (wellFormed s)) where
   accepted : Rules6 (carried s)

@@ -5,10 +5,10 @@ use Rattle.sheet.specs.Answers.{answerOf}
 use Rattle.sheet.specs.declared.answer.Verdict.{Verdict}
 use Rattle.sheet.specs.declared.answer.Verdict.the-variants as Case
 use Rattle.sheet.proofs.Theorems.{one-answer}
+use Rattle.state.proofs.Verdicts.{refuses}
 use Rattle.session.specs.Calls.{Told, toldOf}
-use Rattle.session.specs.declared.state.Reply.{Reply}
-use Rattle.session.specs.declared.state.Reply.the-variants.{Gave, Refused}
-use Rattle.session.proofs.Verdicts.{refuses}
+use Rattle.session.specs.declared.reply.Reply.{Reply}
+use Rattle.session.specs.declared.reply.Reply.the-variants.{Gave, Refused}
 
 pub one-reply : (t : Told) (a b : Reply) → toldOf a ≡ t → toldOf b ≡ t → a ≡ b
 one-reply t (Gave v) (Gave w) e o = ap Gave (ap (λ (x : Told). x .value) (e ∙ sym o))

@@ -11,13 +11,13 @@ use Rattle.sheet.specs.Lists.{all}
 use Rattle.sheet.specs.Words.{Rules6}
 use Rattle.sheet.proofs.Folds.{and-left, and-right, and-both, held}
 use Rattle.sheet.proofs.Says.{past-6}
-use Rattle.session.specs.Session.{freshSession, partyOf}
+use Rattle.state.specs.Session.{freshSession, partyOf}
+use Rattle.state.specs.declared.kept.Session.{Session}
+use Rattle.state.proofs.FormWords.{well-formed-says}
 use Rattle.session.specs.Step.{step, placeActed, stop}
 use Rattle.session.specs.Calls.{Told, opened, stepTold, stepped, stopTold, stopped}
 use Rattle.session.specs.Run.{byteOk, entry, obeyed, ran}
 use Rattle.session.specs.Trace.{call, callTold, called, calledTold}
-use Rattle.session.specs.declared.state.Session.{Session}
-use Rattle.session.proofs.FormWords.{well-formed-says}
 use Rattle.session.proofs.Refusals.{parties-byte, parties-few, Past, answered}
 use Rattle.session.proofs.Openings.{opens}
 use Rattle.session.proofs.Reached.{Reached, here, reached-parties, reached-well-formed}

@@ -10,8 +10,8 @@ use lib.Seq.{drop-cons, take-suc, take-all}
 use Rattle.sheet.specs.Lists.{all, firstBad}
 use Rattle.sheet.proofs.Folds.{and-left, and-right, holds, fails, all-append}
 use Rattle.sheet.proofs.FirstBad.{first-on, first-here}
+use Rattle.state.specs.declared.kept.Session.{Session}
 use Rattle.session.specs.Run.{entry, obeyed}
-use Rattle.session.specs.declared.state.Session.{Session}
 
 -- ---- a loop over a list, at place j
 

@@ -5,10 +5,10 @@ use native.Mathlib.Decide.{decLe, decLt}
 use lib.ListN.{getD}
 use Rattle.sheet.specs.Rows.{slot}
 use Rattle.sheet.specs.Words.{IsSlot}
-use Rattle.session.specs.Session.{layout, partyOf, cell}
+use Rattle.state.specs.Session.{layout, partyOf, cell}
+use Rattle.state.specs.declared.kept.Party.{Party}
+use Rattle.state.specs.declared.kept.Session.{Session}
 use Rattle.session.specs.Step.{Place, announce, publish, write, readTop, readOwn, readPair, fetch, decide, done, placeOf, markAt}
-use Rattle.session.specs.declared.state.Party.{Party}
-use Rattle.session.specs.declared.state.Session.{Session}
 use Rattle.session.proofs.Views.{Standing, at-announce, at-publish, at-write, at-top, at-own, at-pair, at-fetch, at-decide, at-done, View}
 
 -- ---- where a party stands

@@ -10,11 +10,11 @@ use lib.ListN.{length, getD, set}
 use lib.Seq.{getD-set-same, getD-set-other}
 use Rattle.sheet.specs.Rows.{slot}
 use Rattle.sheet.specs.Words.{IsSlot, Rules6}
-use Rattle.session.specs.Session.{carried, layout, partyOf, cell}
+use Rattle.state.specs.Session.{carried, layout, partyOf, cell}
+use Rattle.state.specs.declared.kept.Party.{Party}
+use Rattle.state.specs.declared.kept.Session.{Session}
 use Rattle.session.specs.Step.{Place, announce, publish, write, readTop, readOwn, readPair, fetch, decide, done, placeOf}
 use Rattle.session.specs.Step.{goes, nextK, lowersWin, counted, markAt, partyAfter, marksAfter, publishedAfter}
-use Rattle.session.specs.declared.state.Party.{Party}
-use Rattle.session.specs.declared.state.Session.{Session}
 use Rattle.session.proofs.Views.{Standing, at-announce, at-publish, at-write, at-top, at-own, at-pair, at-fetch, Here, Same}
 use Rattle.session.proofs.Views.{Won, Move}
 use Rattle.session.proofs.Views.{Act, announces-alone, announces-first, announces-top, publishes, lower-writes, top-writes}

@@ -8,8 +8,8 @@ use native.Mathlib.Decide.{ℕ-discrete}
 use borrow.Author.Tests.{eq-eqb, ne-eqb}
 use lib.ListN.{getD}
 use Rattle.sheet.specs.Words.{Rules6}
-use Rattle.session.specs.Session.{layout, partyOf}
-use Rattle.session.specs.declared.state.Session.{Session}
+use Rattle.state.specs.Session.{layout, partyOf}
+use Rattle.state.specs.declared.kept.Session.{Session}
 use Rattle.session.specs.Reach.{stepLimit}
 use Rattle.session.proofs.Limits.{spared, spared-first, spared-top, limit, at-limit}
 use Rattle.session.proofs.Orderly.{done-last}

@@ -13,13 +13,13 @@ use lib.ListN.{length, getD}
 use Rattle.sheet.specs.Lists.{all}
 use Rattle.sheet.specs.Words.{Rules6}
 use Rattle.sheet.proofs.Folds.{and-left, and-right, lt-or-le}
-use Rattle.session.specs.Session.{freshSession, layout, partyOf}
+use Rattle.state.specs.Session.{freshSession, layout, partyOf}
+use Rattle.state.specs.declared.kept.Party.{Party}
+use Rattle.state.specs.declared.kept.Session.{Session}
+use Rattle.state.proofs.Filled.{fresh-party}
 use Rattle.session.specs.Step.{placeActed, step, stoppedParty, stop}
 use Rattle.session.specs.Run.{byteOk, entry, obeyed, ran}
 use Rattle.session.specs.Trace.{actsAt, acts}
-use Rattle.session.specs.declared.state.Party.{Party}
-use Rattle.session.specs.declared.state.Session.{Session}
-use Rattle.session.proofs.Filled.{fresh-party}
 use Rattle.session.proofs.Kept.{acted-move}
 use Rattle.session.proofs.Landing.{party-set}
 use Rattle.session.proofs.Turns.{step-none, step-other, stop-other}

@@ -10,10 +10,10 @@ use borrow.Author.Tests.{eq-eqb, le-ltb}
 use lib.Dec.{ltb, eqb}
 use lib.ListN.{length, set}
 use lib.Seq.{set-getD}
-use Rattle.session.specs.Session.{noParty, partyOf}
+use Rattle.state.specs.Session.{noParty, partyOf}
+use Rattle.state.specs.declared.kept.Party.{Party}
+use Rattle.state.specs.declared.kept.Session.{Session}
 use Rattle.session.specs.Step.{acted, step, stoppedParty, stop}
-use Rattle.session.specs.declared.state.Party.{Party}
-use Rattle.session.specs.declared.state.Session.{Session}
 use Rattle.session.proofs.Landing.{party-set, party-kept}
 
 module _ (s : Session) (i : ℕ) (least : 1 ≤ i) where

@@ -5,8 +5,8 @@ use mathlib.Core.Bool.{Bool, true, false, cond}
 use native.Mathlib.Omega.{arith}
 use borrow.Author.Tests.{ltb-true, ltb-false}
 use lib.Dec.{ltb}
+use Rattle.state.specs.declared.kept.Party.{Party}
 use Rattle.session.specs.Step.{goes, won, nextK, lowersWin}
-use Rattle.session.specs.declared.state.Party.{Party}
 use Rattle.session.proofs.Views.{Standing, Won, on, last, NextK, more, none, LowersWin, lower, top}
 use Rattle.session.proofs.Seen.{standsAt}
 

@@ -7,10 +7,10 @@ use lib.ListN.{length}
 use Rattle.sheet.specs.Rows.{slot}
 use Rattle.sheet.specs.Rules.{writes}
 use Rattle.sheet.specs.Words.{IsSlot, Rules6}
-use Rattle.session.specs.Session.{carried, layout}
+use Rattle.state.specs.Session.{carried, layout}
+use Rattle.state.specs.declared.kept.Party.{Party}
+use Rattle.state.specs.declared.kept.Session.{Session}
 use Rattle.session.specs.Step.{stamped}
-use Rattle.session.specs.declared.state.Party.{Party}
-use Rattle.session.specs.declared.state.Session.{Session}
 use Rattle.session.proofs.Views.{Here, LowerWrote, TopWrote}
 use Rattle.session.proofs.Units.{own-written, pair-written, own-kept, pair-kept, pair-topped}
 use Rattle.session.proofs.Seen.{row?, lower?, where-yes, where-same, view}

@@ -7,12 +7,12 @@ use lib.Dec.{eqb}
 use Rattle.sheet.specs.Lists.{from}
 use Rattle.sheet.specs.Check.{Answer, answer, done, within, checkAnswer}
 use Rattle.sheet.specs.Answers.{numberOf, positionOf}
-use Rattle.session.specs.Session.{freshSession, layout, partyOf}
+use Rattle.state.specs.Session.{freshSession, layout, partyOf}
+use Rattle.state.specs.WellFormed.{wellFormed}
+use Rattle.state.specs.declared.kept.Session.{Session}
 use Rattle.session.specs.Step.{isLive, step, placeActed, stop}
-use Rattle.session.specs.WellFormed.{wellFormed}
-use Rattle.session.specs.declared.state.Session.{Session}
-use Rattle.session.specs.declared.state.Reply.{Reply}
-use Rattle.session.specs.declared.state.Reply.the-variants.{Gave, Refused}
+use Rattle.session.specs.declared.reply.Reply.{Reply}
+use Rattle.session.specs.declared.reply.Reply.the-variants.{Gave, Refused}
 
 -- ---- what a call tells: a number and a position, and a value (place, status, live number), which is 0 in a refused answer
 pub record Told : Type 0 where

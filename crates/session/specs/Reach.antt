@@ -5,9 +5,9 @@ use mathlib.Core.List.{List}
 use mathlib.Core.Bool.{cond}
 use lib.ListN.{getD}
 use lib.Dec.{eqb}
-use Rattle.session.specs.Session.{freshSession, partyOf}
+use Rattle.state.specs.Session.{freshSession, partyOf}
+use Rattle.state.specs.declared.kept.Session.{Session}
 use Rattle.session.specs.Step.{step, stop}
-use Rattle.session.specs.declared.state.Session.{Session}
 
 -- any sequence of steps and stops of parties 1 to n leads from one session to another
 pub data Leads (n : ℕ) (s : Session) : Session → Type 0 where

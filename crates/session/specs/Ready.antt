@@ -5,8 +5,8 @@ use mathlib.Core.List.{List}
 use lib.ListN.{getD}
 use Rattle.sheet.specs.Rows.{slot}
 use Rattle.sheet.specs.Words.{IsSlot, Rules5}
-use Rattle.session.specs.Words.{PartyRule}
-use Rattle.session.specs.declared.state.Party.{Party}
+use Rattle.state.specs.Words.{PartyRule}
+use Rattle.state.specs.declared.kept.Party.{Party}
 
 -- the party's round has a row of j
 pub record ReadyAt (sheet : List ℕ) (j : ℕ) (p : Party) : Type 0 where

@@ -7,11 +7,11 @@ use lib.Dec.{ltb, eqb}
 use Rattle.sheet.specs.Lists.{flat, firstBad}
 use Rattle.sheet.specs.Bytes.{bytesOf}
 use Rattle.sheet.specs.Check.{Answer, answer, done, within}
-use Rattle.session.specs.Session.{freshSession}
+use Rattle.state.specs.Session.{freshSession}
+use Rattle.state.specs.declared.kept.Party.{Party}
+use Rattle.state.specs.declared.kept.Session.{Session}
 use Rattle.session.specs.Step.{step, stop}
 use Rattle.session.specs.Calls.{openAnswer}
-use Rattle.session.specs.declared.state.Party.{Party}
-use Rattle.session.specs.declared.state.Session.{Session}
 
 -- ---- the schedule
 

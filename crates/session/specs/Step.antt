@@ -6,9 +6,9 @@ use lib.ListN.{getD, set}
 use lib.Dec.{ltb, eqb}
 use Rattle.sheet.specs.Rows.{Layout, slot}
 use Rattle.sheet.specs.Rules.{writes}
-use Rattle.session.specs.Session.{layout, partyOf, cell}
-use Rattle.session.specs.declared.state.Party.{Party}
-use Rattle.session.specs.declared.state.Session.{Session}
+use Rattle.state.specs.Session.{layout, partyOf, cell}
+use Rattle.state.specs.declared.kept.Party.{Party}
+use Rattle.state.specs.declared.kept.Session.{Session}
 
 -- ---- places
 

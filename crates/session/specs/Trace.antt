@@ -3,10 +3,10 @@ use Prim.Native.Nat.{ℕ, suc, _+_, _-_}
 use mathlib.Core.List.{List, [], _∷_}
 use mathlib.Core.Bool.{Bool, not, _&&_, cond}
 use lib.Dec.{ltb, eqb}
+use Rattle.state.specs.declared.kept.Session.{Session}
 use Rattle.session.specs.Step.{placeActed}
 use Rattle.session.specs.Calls.{Told, stepTold, stepped, stopTold, stopped}
 use Rattle.session.specs.Run.{entry}
-use Rattle.session.specs.declared.state.Session.{Session}
 
 -- ---- the calls
 

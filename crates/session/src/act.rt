@@ -6,12 +6,12 @@ ghost use lib.ListN.{set};
 ghost use lib.Dec.{T, eqb};
 ghost use Rattle.sheet.specs.Sets.{inSet};
 ghost use Rattle.sheet.specs.Rows.{layoutOf, slot};
-ghost use Rattle.session.specs.Session.{cell};
+ghost use Rattle.state.specs.Session.{cell};
 ghost use Rattle.session.specs.Step.{goes, won, nextK, lowersWin, counted, markAt, announced, afterPublish, afterWrite, afterTop, afterOwn, afterPair, afterFetch, decided, placeOf, partyAfter, marksAfter, publishedAfter, stamped, written};
 ghost use Rattle.session.specs.Ready.{Ready, ReadyAt};
-use crate::state::Mark;
-use crate::state::Party;
 use sheet::rows;
+use state::Mark;
+use state::Party;
 
 // A party runs on, one own step later.
 fn go_to(p: Party, place: u8, round: u8, k: u8, candidate: u8) -> Party
@@ -82,7 +82,7 @@ fn announce(n: u8, i: u8, p: Party) -> Party
 }
 
 // Where the published candidate of a round and a lower stands.
-pub(crate) fn cell_of(round: u8, k: u8) -> usize
+fn cell_of(round: u8, k: u8) -> usize
     requires { ⌜ (1 ≤ round) × (round ≤ 16) × (1 ≤ k) × (k ≤ 16) ⌝ }
     ensures { λ r. ⌜ r ≡ cell round k ⌝ }
     ensures { λ r. ⌜ r < 256 ⌝ }

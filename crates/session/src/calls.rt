@@ -5,17 +5,17 @@ ghost use Prim.Native.Nat.{_≤_, _<_, _-_};
 ghost use lib.Dec.{T, eqb};
 ghost use Rattle.sheet.specs.Lists.{from};
 ghost use Rattle.sheet.specs.Check.{within};
-ghost use Rattle.session.specs.Session.{layout, partyOf};
+ghost use Rattle.state.specs.Session.{layout, partyOf};
+ghost use Rattle.state.specs.WellFormed.{wellFormed};
 ghost use Rattle.session.specs.Step.{isLive, acted, stoppedParty};
-ghost use Rattle.session.specs.WellFormed.{wellFormed};
 ghost use Rattle.session.specs.Calls.{toldOf, stepTold, stepped, stopTold, stopped, countOf, liveTold};
 use crate::act;
-use crate::state::After;
-use crate::state::Party;
-use crate::state::Reply;
-use crate::state::Session;
-use crate::wellformed;
+use crate::reply::After;
+use crate::reply::Reply;
 use sheet::Refusal;
+use state::Party;
+use state::Session;
+use state::wellformed;
 
 fn is_party(n: u8, party: u32) -> bool
     ensures { λ r. ⌜ r ≡ within 1 n party ⌝ }

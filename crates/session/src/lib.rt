@@ -1,15 +1,14 @@
-// Sessions: marks, parties, one act, and the calls over them.
+// Sessions: one act, the calls over them, and the run.
 mod act;
 pub mod calls;
 pub mod opening;
+pub mod reply;
 pub mod runs;
-pub mod state;
-mod wellformed;
 
 ghost use mathlib.Core.Path.{_≡_};
 ghost use Rattle.session.specs.Calls.{toldOf, stepTold, stepped, stopTold, stopped, liveTold};
-use state::After;
-use state::Reply;
+use reply::After;
+use reply::Reply;
 use state::Session;
 
 // A step of a session that is lent: the place acted on, or 8 where nothing changes.

@@ -5,12 +5,12 @@ ghost use Prim.Native.Nat.{_-_, _≤_};
 ghost use lib.ListN.{length, replicate};
 ghost use Rattle.sheet.specs.Lists.{from};
 ghost use Rattle.sheet.specs.Answers.{answerOf};
-ghost use Rattle.session.specs.Session.{freshParty, noParty, filled, freshSession};
+ghost use Rattle.state.specs.Session.{freshParty, noParty, filled, freshSession};
 ghost use Rattle.session.specs.Calls.{openAnswer, opened};
-use crate::state::Party;
-use crate::state::Session;
 use sheet::Refusal;
 use sheet::Verdict;
+use state::Party;
+use state::Session;
 
 // A session that was opened, or why it was not.
 pub struct Opened {

@@ -11,9 +11,9 @@ ghost use Rattle.session.specs.Run.{byteOk, ran, partyBytes, recordLengt
 use crate::act;
 use crate::calls;
 use crate::opening;
-use crate::state::Party;
 use sheet::Refusal;
 use sheet::Verdict;
+use state::Party;
 
 // Whether a schedule byte is a step or a stop of one of n parties, by its party alone: no branch on which of the two it is.
 fn byte_ok(n: u8, b: u8) -> bool

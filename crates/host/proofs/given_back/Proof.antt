@@ -8,10 +8,10 @@ use borrow.Author.Needs.{needs}
 use borrow.Author.Tests.{ne-eqb}
 use lib.Dec.{eqb}
 use Rattle.sheet.specs.Answers.{numberOf}
+use Rattle.state.specs.declared.kept.Session.{Session}
+use Rattle.state.proofs.Verdicts.{refuses}
 use Rattle.session.specs.Calls.{toldOf}
-use Rattle.session.specs.declared.state.Reply.{Reply}
-use Rattle.session.specs.declared.state.Session.{Session}
-use Rattle.session.proofs.Verdicts.{refuses}
+use Rattle.session.specs.declared.reply.Reply.{Reply}
 use Rattle.host.specs.Word.{toldWord}
 use Rattle.host.specs.Layout.{sessionBytes}
 use Rattle.host.proofs.given_back.Statement.{statement}

@@ -36,14 +36,14 @@ use denote.Triple.Table.{entered, cited}
 use denote.Triple.Walked.{says, Stays, stay-none, walkOf, goes-none, Walks, ends-at, walked, walk-meets}
 use denote.Exit.{yes}
 use denote.Triple.Clauses.{ensured, lasts}
+use Rattle.state.specs.declared.kept.Session.{Session}
+use Rattle.state.proofs.kept.Session as T
+use Rattle.state.proofs.kept.Session.Laws as T′
 use Rattle.session.specs.Calls.{toldOf, liveTold}
-use Rattle.session.specs.declared.state.Reply.{Reply}
-use Rattle.session.specs.declared.state.Session.{Session}
+use Rattle.session.specs.declared.reply.Reply.{Reply}
 use Rattle.session.proofs.Lending.{val, vals, lay, lift}
-use Rattle.session.proofs.state.Reply as R
-use Rattle.session.proofs.state.Reply.Laws as R′
-use Rattle.session.proofs.state.Session as T
-use Rattle.session.proofs.state.Session.Laws as T′
+use Rattle.session.proofs.reply.Reply as R
+use Rattle.session.proofs.reply.Reply.Laws as R′
 use Rattle.session.proofs.live as lent
 use Rattle.session.proofs.live.Symbol as lent-def
 use Rattle.session.proofs.live.Symbol.{name as #lent}

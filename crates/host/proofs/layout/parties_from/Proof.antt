@@ -6,8 +6,8 @@ use native.Mathlib.Omega.{arith}
 use borrow.Author.Needs.{needs}
 use borrow.Rule.Slice.PartAt.{part-to-end}
 use lib.ListN.{drop, replicate, length-take, length-drop}
-use Rattle.session.specs.Session.{noParty}
-use Rattle.session.specs.declared.state.Party.{Party}
+use Rattle.state.specs.Session.{noParty}
+use Rattle.state.specs.declared.kept.Party.{Party}
 use Rattle.session.proofs.Copies.{Front, front-first, front-on, front-end, range-at}
 use Rattle.host.specs.Layout.{partiesFrom, partyFrom}
 use Rattle.host.proofs.layout.parties_from.Statement.{statement}

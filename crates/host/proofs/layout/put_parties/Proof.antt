@@ -4,7 +4,7 @@ use mathlib.Core.Path.{_≡_, refl, _∙_}
 use native.Mathlib.Omega.{arith}
 use borrow.Author.Needs.{needs}
 use lib.ListN.{length, length-take, length-drop}
-use Rattle.session.specs.Session.{noParty}
+use Rattle.state.specs.Session.{noParty}
 use Rattle.host.specs.Layout.{partyBytes}
 use Rattle.host.proofs.Written.{InTurn, turn, turned}
 use Rattle.host.proofs.layout.put_parties.Statement.{statement}

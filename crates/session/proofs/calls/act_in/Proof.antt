@@ -8,15 +8,15 @@ use lib.Dec.{ltb→lt}
 use lib.ListN.{length, take, set}
 use lib.Seq.{length-take-le}
 use Rattle.sheet.specs.Rows.{layoutOf}
-use Rattle.session.specs.Session.{carried, partyOf}
+use Rattle.state.specs.Session.{carried, partyOf}
+use Rattle.state.specs.Words.{PartyRule}
+use Rattle.state.specs.declared.kept.Party.{Party}
+use Rattle.state.specs.declared.kept.Session.{Session}
+use Rattle.state.proofs.FormWords.{well-formed-says}
+use Rattle.state.proofs.Sizes.{sheet-length, sheet-front}
 use Rattle.session.specs.Step.{Place, placeOf, counted, partyAfter, marksAfter, publishedAfter, acted}
-use Rattle.session.specs.Words.{PartyRule}
 use Rattle.session.specs.Ready.{Ready}
-use Rattle.session.specs.declared.state.Party.{Party}
-use Rattle.session.specs.declared.state.Session.{Session}
-use Rattle.session.proofs.FormWords.{well-formed-says}
 use Rattle.session.proofs.Refusals.{parties-few}
-use Rattle.session.proofs.Sizes.{sheet-length, sheet-front}
 use Rattle.session.proofs.calls.act_in.Statement.{statement}
 use Rattle.session.proofs.calls.act_in.Tie as tie
 

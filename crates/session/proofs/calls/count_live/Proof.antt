@@ -10,10 +10,10 @@ use borrow.Author.Needs.{needs}
 use borrow.Author.Tests.{lt-ltb, le-ltb}
 use native.Mathlib.Omega.{arith}
 use Rattle.sheet.specs.Lists.{from}
-use Rattle.session.specs.Session.{partyOf}
+use Rattle.state.specs.Session.{partyOf}
+use Rattle.state.specs.declared.kept.Party.{Party}
 use Rattle.session.specs.Step.{isLive}
 use Rattle.session.specs.Calls.{countOf}
-use Rattle.session.specs.declared.state.Party.{Party}
 use Rattle.session.proofs.calls.count_live.Statement.{statement}
 use Rattle.session.proofs.calls.count_live.Tie as tie
 

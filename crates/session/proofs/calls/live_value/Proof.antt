@@ -6,12 +6,12 @@ use borrow.Author.Needs.{needs}
 use native.Mathlib.Omega.{arith}
 use Rattle.sheet.specs.Lists.{from}
 use Rattle.sheet.proofs.Folds.{held}
-use Rattle.session.specs.Session.{partyOf}
+use Rattle.state.specs.Session.{partyOf}
+use Rattle.state.specs.WellFormed.{wellFormed}
+use Rattle.state.specs.declared.kept.Session.{Session}
+use Rattle.state.proofs.Tested.{passed, stopped}
 use Rattle.session.specs.Step.{isLive}
-use Rattle.session.specs.WellFormed.{wellFormed}
 use Rattle.session.specs.Calls.{told, countOf, liveNumber, liveTold}
-use Rattle.session.specs.declared.state.Session.{Session}
-use Rattle.session.proofs.Tested.{passed, stopped}
 use Rattle.session.proofs.Refusals.{parties-byte, parties-few}
 use Rattle.session.proofs.calls.live_value.Statement.{statement}
 use Rattle.session.proofs.calls.live_value.Tie as tie

@@ -6,10 +6,10 @@ use borrow.Author.Needs.{needs}
 use borrow.Author.Tests.{lt-ltb, le-ltb}
 use native.Mathlib.Omega.{arith}
 use lib.Dec.{lt→ltb}
-use Rattle.session.specs.Session.{partyOf}
+use Rattle.state.specs.Session.{partyOf}
+use Rattle.state.specs.declared.kept.Session.{Session}
 use Rattle.session.specs.Step.{isLive, acted, step, placeActed}
 use Rattle.session.specs.Calls.{told}
-use Rattle.session.specs.declared.state.Session.{Session}
 use Rattle.session.proofs.Refusals.{Past, not-formed, no-party, past, answered}
 use Rattle.session.proofs.calls.step_value.Statement.{statement}
 use Rattle.session.proofs.calls.step_value.Tie as tie

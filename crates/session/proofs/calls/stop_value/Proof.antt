@@ -5,13 +5,13 @@ use borrow.Author.Needs.{needs}
 use native.Mathlib.Omega.{arith}
 use lib.ListN.{length, set}
 use lib.Seq.{getD-set-same}
-use Rattle.session.specs.Session.{noParty, partyOf}
+use Rattle.state.specs.Session.{noParty, partyOf}
+use Rattle.state.specs.declared.kept.Party.{Party}
+use Rattle.state.specs.declared.kept.Session.{Session}
+use Rattle.state.proofs.Sizes.{parties-length}
 use Rattle.session.specs.Step.{stoppedParty, stop}
 use Rattle.session.specs.Calls.{told}
-use Rattle.session.specs.declared.state.Party.{Party}
-use Rattle.session.specs.declared.state.Session.{Session}
 use Rattle.session.proofs.Refusals.{Past, not-formed, no-party, past, answered}
-use Rattle.session.proofs.Sizes.{parties-length}
 use Rattle.session.proofs.calls.stop_value.Statement.{statement}
 use Rattle.session.proofs.calls.stop_value.Tie as tie
 

@@ -7,7 +7,7 @@ use Rattle.sheet.specs.Answers.{answerOf}
 use Rattle.sheet.specs.Words.{Rules4}
 use Rattle.sheet.proofs.Slots.{count-most}
 use Rattle.sheet.proofs.Says.{check-says}
-use Rattle.session.proofs.Verdicts.{refused-number}
+use Rattle.state.proofs.Verdicts.{refused-number}
 use Rattle.session.proofs.Openings.{not-accepted, miscounted, opens}
 use Rattle.session.proofs.opening.open_value.Statement.{statement}
 use Rattle.session.proofs.opening.open_value.Tie as tie

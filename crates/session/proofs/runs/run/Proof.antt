@@ -17,10 +17,10 @@ use Rattle.sheet.specs.declared.answer.Verdict.the-variants.{Refused}
 use Rattle.sheet.proofs.Folds.{held, failed}
 use Rattle.sheet.proofs.FirstBad.{first-none, none-first}
 use Rattle.sheet.proofs.Says.{check-says}
+use Rattle.state.specs.declared.kept.Party.{Party}
+use Rattle.state.proofs.Verdicts.{refused-number}
 use Rattle.session.specs.Calls.{openAnswer}
 use Rattle.session.specs.Run.{byteOk, recordBytes, recordLength}
-use Rattle.session.specs.declared.state.Party.{Party}
-use Rattle.session.proofs.Verdicts.{refused-number}
 use Rattle.session.proofs.Openings.{not-accepted, miscounted, opens}
 use Rattle.session.proofs.RunAnswers.{run-unopened, run-unscheduled, run-unfit, run-done, run-refused, out-written}
 use Rattle.session.proofs.runs.run.Statement.{statement}

@@ -1,0 +1,9 @@
+-- Laws that several proofs cite; each file says its argument in its first line.
+pub mod Tested
+pub mod Zeros
+pub mod Joins
+pub mod Carried
+pub mod FormWords
+pub mod Sizes
+pub mod Filled
+pub mod Verdicts

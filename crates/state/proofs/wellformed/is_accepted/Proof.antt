@@ -1,0 +1,23 @@
+-- The check's verdict has the number of its answer: 0 where it is done, another where it refuses.
+use mathlib.Core.Path.{sym, ap, _∙_}
+use borrow.Author.Needs.{needs}
+use borrow.Author.Tests.{eq-eqb}
+use denote.Ref.{now}
+use Rattle.sheet.specs.Check.{Answer, checkAnswer}
+use Rattle.sheet.specs.Answers.{answerOf}
+use Rattle.state.proofs.Verdicts.{refused-number}
+use Rattle.state.proofs.wellformed.is_accepted.Statement.{statement}
+use Rattle.state.proofs.wellformed.is_accepted.Tie as tie
+
+returns : tie.Need-returns
+returns c =
+    let e = sym (c .before .before .check .ensures) ∙ ap answerOf (c .enum-told .given .1) in
+    sym (eq-eqb (checkAnswer (now (c .before .before .before .before .args .sheet)) .number) 0 (ap (λ (a : Answer). a .number) e))
+
+returns-2 : tie.Need-returns-2
+returns-2 c =
+    let told = c .enum-told2 .given in
+    sym (refused-number (checkAnswer (now (c .before .before .before .before .args .sheet))) _ (told .0 .0) (c .before .before .check .ensures) (told .1))
+
+pub is-accepted-spec : {M : Type 1} → statement M
+is-accepted-spec = tie.close (tie.spec (λ c κs. search needs) (λ c. search needs) (λ c. search needs) returns returns-2)

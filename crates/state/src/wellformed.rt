@@ -1,0 +1,330 @@
+// Whether a session is well formed: a function for each group of clauses.
+ghost use mathlib.Core.Path.{_≡_};
+ghost use mathlib.Core.Bool.{cond};
+ghost use Prim.Native.Nat.{_+_, _-_, _/_, _%_, _≤_, _<_, min};
+ghost use lib.ListN.{length, getD};
+ghost use lib.Dec.{leb, ltb, eqb};
+ghost use Rattle.sheet.specs.Lists.{from, all};
+ghost use Rattle.sheet.specs.Bytes.{num};
+ghost use Rattle.sheet.specs.Check.{checkAnswer, within};
+ghost use Rattle.state.specs.Session.{cell};
+ghost use Rattle.state.specs.WellFormed.{carriedOk, marksOk, isLower, publishedOk, proposalsOk, same, roundOk, scanOk, lowerOk, topOk, idleOk, unstartedOk, decisionOk, statusOk, rangesOk, partyOk, unusedOk, partiesOk, wellFormed};
+use crate::kept::Party;
+use crate::kept::Session;
+use sheet::Verdict;
+
+fn size(x: u8) -> usize
+    ensures { λ r. ⌜ r ≡ x ⌝ }
+    ensures { λ r. ⌜ r < 256 ⌝ }
+{
+    x as usize
+}
+
+// The number of two bytes.
+fn two(s: &[u8], at: usize) -> usize
+    requires { ⌜ at + 2 ≤ length (now s) ⌝ }
+    ensures { λ r. ⌜ r ≡ num (now (s .entry)) at 2 ⌝ }
+{
+    size(s[at]) * 256 + size(s[at + 1])
+}
+
+// How many bytes of the copy the carried sheet has.
+pub fn carried_length(sheet: &[u8; 1898]) -> usize
+    ensures { λ r. ⌜ r ≡ min (num (now (sheet .entry)) 0 2) 1898 ⌝ }
+{
+    let field = two(sheet, 0);
+    if field < 1898 { field } else { 1898 }
+}
+
+fn is_accepted(sheet: &[u8]) -> bool
+    ensures { λ r. ⌜ r ≡ eqb (checkAnswer (now (sheet .entry)) .number) 0 ⌝ }
+{
+    match sheet::check(sheet) {
+        Verdict::Done => true,
+        Verdict::Refused(_) => false,
+    }
+}
+
+fn zeros_from(s: &[u8], start: usize) -> bool
+    ensures { λ r. ⌜ r ≡ all (λ j. eqb (getD (now (s .entry)) j 0) 0) (from start (length (now (s .entry)) - start)) ⌝ }
+{
+    let mut j = start;
+    while j < s.len() {
+        if s[j] != 0 {
+            return false;
+        }
+        j += 1;
+    }
+    true
+}
+
+// The carried sheet is accepted, and the copy past it is zero.
+fn sheet_ok(sheet: [u8; 1898]) -> bool
+    ensures { λ r. ⌜ r ≡ carriedOk sheet ⌝ }
+{
+    let len = carried_length(&sheet);
+    if !is_accepted(&sheet[..len]) {
+        return false;
+    }
+    zeros_from(&sheet, len)
+}
+
+fn most_mark(u: usize, units: usize) -> u8
+    ensures { λ r. ⌜ r ≡ cond (ltb u units) 2 0 ⌝ }
+{
+    if u < units { 2 } else { 0 }
+}
+
+fn marks_ok(marks: &[u8; 1024], units: usize) -> bool
+    ensures { λ r. ⌜ r ≡ marksOk units (now (marks .entry)) ⌝ }
+{
+    let mut u = 0;
+    while u < 1024 {
+        if most_mark(u, units) < marks[u] {
+            return false;
+        }
+        u += 1;
+    }
+    true
+}
+
+fn most_published(n: usize, j: usize) -> usize
+    ensures { λ r. ⌜ r ≡ cond (isLower n (j / 16 + 1) (j % 16 + 1)) n 0 ⌝ }
+{
+    let r = j / 16 + 1;
+    let k = j % 16 + 1;
+    if r < 2 {
+        return 0;
+    }
+    if n < r {
+        return 0;
+    }
+    if k < r { n } else { 0 }
+}
+
+fn published_ok(published: &[u8; 256], n: usize) -> bool
+    ensures { λ r. ⌜ r ≡ publishedOk n (now (published .entry)) ⌝ }
+{
+    let mut j = 0;
+    while j < 256 {
+        let most = most_published(n, j);
+        if most < size(published[j]) {
+            return false;
+        }
+        j += 1;
+    }
+    true
+}
+
+fn proposals_ok(proposals: &[u32; 16], n: usize) -> bool
+    ensures { λ r. ⌜ r ≡ proposalsOk n (now (proposals .entry)) ⌝ }
+{
+    let mut j = n;
+    while j < 16 {
+        if proposals[j] != 0 {
+            return false;
+        }
+        j += 1;
+    }
+    true
+}
+
+fn is_within(lo: u8, hi: u8, x: u8) -> bool
+    ensures { λ r. ⌜ r ≡ within lo hi x ⌝ }
+{
+    if lo <= x { x <= hi } else { false }
+}
+
+fn is_same(a: bool, b: bool) -> bool
+    ensures { λ r. ⌜ r ≡ same a b ⌝ }
+{
+    if a { b } else { !b }
+}
+
+// The round, by the place.
+fn round_ok(n: u8, i: u8, p: Party) -> bool
+    ensures { λ r. ⌜ r ≡ roundOk n i p ⌝ }
+{
+    let round = p.round;
+    if is_within(1, 6, p.place) {
+        if !is_within(2, n, round) {
+            return false;
+        }
+        return i <= round;
+    }
+    round == 0
+}
+
+// The scan number, by the place.
+fn scan_ok(p: Party) -> bool
+    ensures { λ r. ⌜ r ≡ scanOk p ⌝ }
+{
+    let k = p.k;
+    if is_within(4, 6, p.place) {
+        if k < 1 {
+            return false;
+        }
+        return k < p.round;
+    }
+    k == 0
+}
+
+// Places 1 and 3 are a lower's.
+fn lower_ok(i: u8, p: Party) -> bool
+    ensures { λ r. ⌜ r ≡ lowerOk i p ⌝ }
+{
+    let place = p.place;
+    if place == 1 {
+        return i < p.round;
+    }
+    if place == 3 {
+        return i < p.round;
+    }
+    true
+}
+
+// Where the published candidate of a round and a lower stands.
+fn cell_of(round: u8, k: u8) -> usize
+    requires { ⌜ (1 ≤ round) × (round ≤ 16) × (1 ≤ k) × (k ≤ 16) ⌝ }
+    ensures { λ r. ⌜ r ≡ cell round k ⌝ }
+    ensures { λ r. ⌜ r < 256 ⌝ }
+{
+    16 * (round as usize - 1) + (k as usize - 1)
+}
+
+// Place 6 is the top's, after a witness that has published.
+fn top_ok(published: &[u8; 256], i: u8, p: Party) -> bool
+    requires { ⌜ (p .place ≡ 6 → (1 ≤ p .round) × (p .round ≤ 16) × (1 ≤ p .k) × (p .k ≤ 16)) ⌝ }
+    ensures { λ r. ⌜ r ≡ topOk (now (published .entry)) i p ⌝ }
+{
+    if p.place != 6 {
+        return true;
+    }
+    if i != p.round {
+        return false;
+    }
+    let at = cell_of(p.round, p.k);
+    published[at] != 0
+}
+
+// Idle exactly at place 0, unless stopped.
+fn idle_ok(p: Party) -> bool
+    ensures { λ r. ⌜ r ≡ idleOk p ⌝ }
+{
+    if p.status == 3 {
+        return true;
+    }
+    is_same(p.status == 0, p.place == 0)
+}
+
+// No own steps at place 0.
+fn unstarted_ok(p: Party) -> bool
+    ensures { λ r. ⌜ r ≡ unstartedOk p ⌝ }
+{
+    if p.place != 0 {
+        return true;
+    }
+    p.steps == 0
+}
+
+// The decision is zero unless decided.
+fn decision_ok(p: Party) -> bool
+    ensures { λ r. ⌜ r ≡ decisionOk p ⌝ }
+{
+    if p.status == 2 {
+        return true;
+    }
+    p.decision == 0
+}
+
+// Status, place, own steps and decision.
+fn status_ok(p: Party) -> bool
+    ensures { λ r. ⌜ r ≡ statusOk p ⌝ }
+{
+    is_same(p.status == 2, p.place == 8) && idle_ok(p) && unstarted_ok(p) && decision_ok(p)
+}
+
+// The numbers of a party alone.
+fn ranges_ok(n: u8, p: Party) -> bool
+    ensures { λ r. ⌜ r ≡ rangesOk n p ⌝ }
+{
+    p.status <= 3 && p.place <= 8 && is_within(1, n, p.candidate) && p.steps <= 1000
+}
+
+// Party i of n.
+fn party_ok(n: u8, published: &[u8; 256], i: u8, p: Party) -> bool
+    requires { ⌜ n ≤ 16 ⌝ }
+    ensures { λ r. ⌜ r ≡ partyOk n (now (published .entry)) i p ⌝ }
+{
+    ranges_ok(n, p)
+        && round_ok(n, i, p)
+        && scan_ok(p)
+        && lower_ok(i, p)
+        && top_ok(published, i, p)
+        && status_ok(p)
+}
+
+// An entry past the parties.
+fn unused_ok(p: Party) -> bool
+    ensures { λ r. ⌜ r ≡ unusedOk p ⌝ }
+{
+    p.status == 0
+        && p.place == 0
+        && p.round == 0
+        && p.k == 0
+        && p.candidate == 0
+        && p.steps == 0
+        && p.decision == 0
+}
+
+fn entry_ok(n: u8, published: &[u8; 256], i: u8, p: Party) -> bool
+    requires { ⌜ n ≤ 16 ⌝ }
+    ensures { λ r. ⌜ r ≡ cond (leb i n) (partyOk n (now (published .entry)) i p) (unusedOk p) ⌝ }
+{
+    if i <= n {
+        party_ok(n, published, i, p)
+    } else {
+        unused_ok(p)
+    }
+}
+
+fn parties_ok(n: u8, published: &[u8; 256], parties: [Party; 16]) -> bool
+    requires { ⌜ n ≤ 16 ⌝ }
+    ensures { λ r. ⌜ r ≡ partiesOk n (now (published .entry)) parties ⌝ }
+{
+    let mut i: u8 = 1;
+    while i <= 16 {
+        let at = i as usize - 1;
+        let p = parties[at];
+        if !entry_ok(n, published, i, p) {
+            return false;
+        }
+        i += 1;
+    }
+    true
+}
+
+// Every clause.
+pub fn is_well_formed(s: Session) -> bool
+    ensures { λ r. ⌜ r ≡ wellFormed s ⌝ }
+{
+    let sheet = s.sheet;
+    if !sheet_ok(sheet) {
+        return false;
+    }
+    let n = sheet[5];
+    let marks = s.marks;
+    if !marks_ok(&marks, two(&sheet, 6)) {
+        return false;
+    }
+    let published = s.published;
+    if !published_ok(&published, n as usize) {
+        return false;
+    }
+    let proposals = s.proposals;
+    if !proposals_ok(&proposals, n as usize) {
+        return false;
+    }
+    let parties = s.parties;
+    parties_ok(n, &published, parties)
+}
