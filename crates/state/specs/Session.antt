@@ -31,6 +31,11 @@ freshSession sheet proposals n =
       parties = map freshParty (from 1 n) ++ replicate (16 - n) noParty;
     }
 
+-- a session of its parts
+abbrev pub ofParts : List ℕ → List ℕ → List ℕ → List ℕ → List Party → Session
+ofParts sheet proposals marks published parties =
+    record { sheet = sheet; proposals = proposals; marks = marks; published = published; parties = parties }
+
 -- the sheet that a session carries: as many bytes of its copy as the length field says
 abbrev pub carriedOf : List ℕ → List ℕ
 carriedOf sheet = take (num sheet 0 2) sheet

@@ -2,12 +2,12 @@
 ghost use mathlib.Core.Path.{_≡_};
 ghost use mathlib.Core.Bool.{cond};
 ghost use Prim.Native.Nat.{_+_, _-_, _/_, _%_, _≤_, _<_, min};
-ghost use lib.ListN.{length, getD};
+ghost use lib.ListN.{length, getD, take};
 ghost use lib.Dec.{leb, ltb, eqb};
 ghost use Rattle.sheet.specs.Lists.{from, all};
 ghost use Rattle.sheet.specs.Bytes.{num};
 ghost use Rattle.sheet.specs.Check.{checkAnswer, within};
-ghost use Rattle.state.specs.Session.{cell};
+ghost use Rattle.state.specs.Session.{cell, ofParts};
 ghost use Rattle.state.specs.WellFormed.{carriedOk, marksOk, isLower, publishedOk, proposalsOk, same, roundOk, scanOk, lowerOk, topOk, idleOk, unstartedOk, decisionOk, statusOk, rangesOk, partyOk, unusedOk, partiesOk, wellFormed};
 use crate::kept::Party;
 use crate::kept::Session;
@@ -36,10 +36,12 @@ pub fn carried_length(sheet: &[u8; 1898]) -> usize
     if field < 1898 { field } else { 1898 }
 }
 
-fn is_accepted(sheet: &[u8]) -> bool
-    ensures { λ r. ⌜ r ≡ eqb (checkAnswer (now (sheet .entry)) .number) 0 ⌝ }
+// Whether the front of a slice is an accepted sheet.
+fn is_accepted(s: &[u8], len: usize) -> bool
+    requires { ⌜ len ≤ length (now s) ⌝ }
+    ensures { λ r. ⌜ r ≡ eqb (checkAnswer (take len (now (s .entry))) .number) 0 ⌝ }
 {
-    match sheet::check(sheet) {
+    match sheet::check(&s[..len]) {
         Verdict::Done => true,
         Verdict::Refused(_) => false,
     }
@@ -59,14 +61,14 @@ fn zeros_from(s: &[u8], start: usize) -> bool
 }
 
 // The carried sheet is accepted, and the copy past it is zero.
-fn sheet_ok(sheet: [u8; 1898]) -> bool
-    ensures { λ r. ⌜ r ≡ carriedOk sheet ⌝ }
+fn sheet_ok(sheet: &[u8; 1898]) -> bool
+    ensures { λ r. ⌜ r ≡ carriedOk (now (sheet .entry)) ⌝ }
 {
-    let len = carried_length(&sheet);
-    if !is_accepted(&sheet[..len]) {
+    let len = carried_length(sheet);
+    if !is_accepted(sheet, len) {
         return false;
     }
-    zeros_from(&sheet, len)
+    zeros_from(sheet, len)
 }
 
 fn most_mark(u: usize, units: usize) -> u8
@@ -304,27 +306,36 @@ fn parties_ok(n: u8, published: &[u8; 256], parties: [Party; 16]) -> bool
     true
 }
 
-// Every clause.
-pub fn is_well_formed(s: Session) -> bool
-    ensures { λ r. ⌜ r ≡ wellFormed s ⌝ }
+// Every clause, of the parts of a session.
+pub fn parts_well_formed<'a>(
+    sheet: &'a [u8; 1898],
+    proposals: &'a [u32; 16],
+    marks: &'a [u8; 1024],
+    published: &'a [u8; 256],
+    parties: [Party; 16],
+) -> bool
+    ensures { λ r. ⌜ r ≡ wellFormed (ofParts (now (sheet .entry)) (now (proposals .entry)) (now (marks .entry)) (now (published .entry)) parties) ⌝ }
 {
-    let sheet = s.sheet;
     if !sheet_ok(sheet) {
         return false;
     }
     let n = sheet[5];
-    let marks = s.marks;
-    if !marks_ok(&marks, two(&sheet, 6)) {
+    if !marks_ok(marks, two(sheet, 6)) {
         return false;
     }
-    let published = s.published;
-    if !published_ok(&published, n as usize) {
+    if !published_ok(published, n as usize) {
         return false;
     }
-    let proposals = s.proposals;
-    if !proposals_ok(&proposals, n as usize) {
+    if !proposals_ok(proposals, n as usize) {
         return false;
     }
+    parties_ok(n, published, parties)
+}
+
+// Every clause, of a session.
+pub fn is_well_formed(s: Session) -> bool
+    ensures { λ r. ⌜ r ≡ wellFormed s ⌝ }
+{
     let parties = s.parties;
-    parties_ok(n, &published, parties)
+    parts_well_formed(&s.sheet, &s.proposals, &s.marks, &s.published, parties)
 }

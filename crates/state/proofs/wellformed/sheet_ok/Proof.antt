@@ -3,6 +3,8 @@ use Prim.Native.Nat.{ℕ, _-_, min}
 use mathlib.Core.Path.{_≡_, sym, ap, _∙_}
 use mathlib.Core.Bool.{Bool}
 use mathlib.Core.List.{List}
+use native.Mathlib.Nat.{min-le-right}
+use native.Mathlib.Omega.{arith}
 use borrow.Author.Needs.{needs}
 use lib.Dec.{eqb}
 use lib.ListN.{length, getD, take, length-take}
@@ -15,45 +17,43 @@ use Rattle.state.proofs.Carried.{carried-front}
 use Rattle.state.proofs.wellformed.sheet_ok.Statement.{statement}
 use Rattle.state.proofs.wellformed.sheet_ok.Tie as tie
 
-whole : (c : tie.Start) → length (c .args .t1) ≡ 1898
-whole c = c .good .0 .1 .0 .1
+-- what is lent to the check
+abbrev copy : tie.After-is-accepted-arg → List ℕ
+copy c = c .before .before .args .sheet .now
 
-front : (c : tie.After-carried-length) → take (c .carried-length .result) (c .before .before .args .t1) ≡ carriedOf (c .before .before .args .t1)
-front c = rw (c .carried-length .ensures, ← whole (c .before .before)) (carried-front (c .before .before .args .t1))
+abbrev size : tie.After-is-accepted-arg → ℕ
+size c = c .before .carried-length .result
 
-long : (c : tie.After-carried-length) → length (carriedOf (c .before .before .args .t1)) ≡ c .carried-length .result
-long c =
-    let sheet = c .before .before .args .t1 in
-    length-take (num sheet 0 2) sheet ∙ ap (min (num sheet 0 2)) (whole (c .before .before)) ∙ sym (c .carried-length .ensures)
+whole : (c : tie.After-is-accepted-arg) → length (copy c) ≡ 1898
+whole c = search needs
 
-slice-aggregate-is-accepted : tie.Need-slice-aggregate-is-accepted
-slice-aggregate-is-accepted c = sym (ap length (front (c .before)) ∙ long (c .before))
+front : (c : tie.After-is-accepted-arg) → take (size c) (copy c) ≡ carriedOf (copy c)
+front c =
+    ap (λ (n : ℕ). take n (copy c)) (c .before .carried-length .ensures ∙ ap (min (num (copy c) 0 2)) (sym (whole c))) ∙ carried-front (copy c)
 
-asked : (c : tie.After-is-accepted) → c .is-accepted .result ≡ eqb (checkAnswer (carriedOf (c .before .before .before .before .args .t1)) .number) 0
-asked c = c .is-accepted .ensures ∙ ap (λ (l : List ℕ). eqb (checkAnswer l .number) 0) (front (c .before .before))
+long : (c : tie.After-is-accepted-arg) → length (carriedOf (copy c)) ≡ size c
+long c = length-take (num (copy c) 0 2) (copy c) ∙ ap (min (num (copy c) 0 2)) (whole c) ∙ sym (c .before .carried-length .ensures)
+
+is-accepted-requires : tie.Need-is-accepted-requires
+is-accepted-requires c κs =
+    omega (arith, c .before .carried-length .ensures, whole c, min-le-right (num (copy c) 0 2) 1898)
+
+asked : (c : tie.After-is-accepted) → c .is-accepted .result ≡ eqb (checkAnswer (carriedOf (copy (c .before))) .number) 0
+asked c = c .is-accepted .ensures ∙ ap (λ (l : List ℕ). eqb (checkAnswer l .number) 0) (front (c .before))
 
 returns : tie.Need-returns
 returns c = ends _ (stopped (asked (c .before)) (c .if1 .taken))
 
 returns-2 : tie.Need-returns-2
 returns-2 c =
-    let sheet = c .before .before .before .before .before .before .before .args .t1 in
-    let len = c .before .before .before .before .before .carried-length .result in
-    let zeros : ℕ → ℕ → Bool = λ start size. all (λ j. eqb (getD sheet j 0) 0) (from start (size - start)) in
+    let accepted = c .before .before .before in
+    let lent = accepted .before in
+    let zeros : ℕ → ℕ → Bool = λ start most. all (λ j. eqb (getD (copy lent) j 0) 0) (from start (most - start)) in
     c .zeros-from .ensures
-    ∙ ap (zeros len) (whole (c .before .before .before .before .before .before .before))
-    ∙ ap (λ (n : ℕ). zeros n 1898) (sym (long (c .before .before .before .before .before)))
-    ∙ last _ (passed (asked (c .before .before .before)) (c .before .before .if1 .left))
+    ∙ ap (zeros (size lent)) (whole lent)
+    ∙ ap (λ (n : ℕ). zeros n 1898) (sym (long lent))
+    ∙ last _ (passed (asked accepted) (c .before .before .if1 .left))
 
 pub sheet-ok-spec : {M : Type 1} → statement M
 sheet-ok-spec =
-    tie.close
-    (tie.spec
-    (λ c κs. search needs)
-    (λ c. search needs)
-    slice-aggregate-is-accepted
-    (λ c κs. search needs)
-    returns
-    (λ c. search needs)
-    (λ c κs. search needs)
-    returns-2)
+    tie.close (tie.spec (λ c κs. search needs) is-accepted-requires returns (λ c κs. search needs) returns-2)

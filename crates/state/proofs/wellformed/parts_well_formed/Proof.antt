@@ -1,93 +1,106 @@
 -- An accepted sheet has the copy's header, so each test is that of the session's layout: a failed one settles the answer, and the last one is it.
 use mathlib.Core.Path.{_≡_, sym, ap, _∙_}
-use Prim.Native.Nat.{ℕ}
+use Prim.Native.Nat.{ℕ, _≤_}
+use native.Mathlib.Omega.{arith}
 use borrow.Author.Needs.{needs}
 use lib.ListN.{getD}
 use Rattle.sheet.specs.Words.{Rules6}
 use Rattle.sheet.proofs.Folds.{held, fails, failed}
-use Rattle.state.specs.Session.{carried, layout}
+use Rattle.state.specs.Session.{ofParts, carried, layout}
 use Rattle.state.specs.WellFormed.{carriedOk, marksOk, publishedOk, proposalsOk, partiesOk, wellFormed}
 use Rattle.state.specs.declared.kept.Session.{Session}
 use Rattle.state.proofs.Tested.{passed, stopped, both, last}
 use Rattle.state.proofs.Carried.{carried-parties, carried-units, copy-whole, most-parties}
 use Rattle.state.proofs.FormWords.{carried-words, passed-says}
-use Rattle.state.proofs.wellformed.is_well_formed.Statement.{statement}
-use Rattle.state.proofs.wellformed.is_well_formed.Tie as tie
+use Rattle.state.proofs.wellformed.parts_well_formed.Statement.{statement}
+use Rattle.state.proofs.wellformed.parts_well_formed.Tie as tie
 
--- where the test before was passed, and the session
-abbrev session : tie.Else1 → Session
-session c = c .before .before .before .args .s
+-- where the test before was passed, and the session of the parts
+abbrev session : tie.Start → Session
+session c = let a = c .args in ofParts (a .sheet .now) (a .proposals .now) (a .marks .now) (a .published .now) (a .parties)
+
+abbrev start : tie.Else1 → tie.Start
+start c = c .before .before
 
 abbrev first : tie.Else2 → tie.Else1
-first c = c .before .before .before .before .before .before
+first c = c .before .before .before .before .before
 
 abbrev second : tie.Else3 → tie.Else2
-second c = c .before .before .before .before
+second c = c .before .before
 
 abbrev third : tie.Else4 → tie.Else3
-third c = c .before .before .before .before
+third c = c .before .before
 
-accepted : (c : tie.Else1) → Rules6 (carried (session c))
+accepted : (c : tie.Else1) → Rules6 (carried (session (start c)))
 accepted c =
-    let sheet = session c .sheet in
+    let sheet = session (start c) .sheet in
     carried-words sheet .says .0 (held (carriedOk sheet) (passed (c .before .sheet-ok .ensures) (c .if1 .left))) .0
 
-count : (c : tie.Else1) → getD (session c .sheet) 5 0 ≡ layout (session c) .parties
-count c = sym (carried-parties (session c .sheet) (accepted c))
+count : (c : tie.Else1) → getD (session (start c) .sheet) 5 0 ≡ layout (session (start c)) .parties
+count c = sym (carried-parties (session (start c) .sheet) (accepted c))
 
 marks : (c : tie.After-marks-ok)
-    → let s = session (c .before .before .before .before .before) in c .marks-ok .result ≡ marksOk (layout s .units) (s .marks)
+    → let s = session (start (c .before .before .before .before)) in c .marks-ok .result ≡ marksOk (layout s .units) (s .marks)
 marks c =
-    let before = c .before .before .before .before .before in
-    let s = session before in
+    let before = c .before .before .before .before in
+    let s = session (start before) in
     let units = c .before .two .ensures ∙ sym (carried-units (s .sheet) (accepted before)) in
     c .marks-ok .ensures ∙ ap (λ (n : ℕ). marksOk n (s .marks)) units
 
 published : (c : tie.After-published-ok)
-    → let s = session (first (c .before .before .before)) in c .published-ok .result ≡ publishedOk (layout s .parties) (s .published)
+    → let s = session (start (first (c .before))) in c .published-ok .result ≡ publishedOk (layout s .parties) (s .published)
 published c =
-    let before = first (c .before .before .before) in
-    c .published-ok .ensures ∙ ap (λ (n : ℕ). publishedOk n (session before .published)) (count before)
+    let before = first (c .before) in
+    c .published-ok .ensures ∙ ap (λ (n : ℕ). publishedOk n (session (start before) .published)) (count before)
 
 proposals : (c : tie.After-proposals-ok)
-    → let s = session (first (second (c .before .before .before))) in c .proposals-ok .result ≡ proposalsOk (layout s .parties) (s .proposals)
+    → let s = session (start (first (second (c .before)))) in c .proposals-ok .result ≡ proposalsOk (layout s .parties) (s .proposals)
 proposals c =
-    let before = first (second (c .before .before .before)) in
-    c .proposals-ok .ensures ∙ ap (λ (n : ℕ). proposalsOk n (session before .proposals)) (count before)
+    let before = first (second (c .before)) in
+    c .proposals-ok .ensures ∙ ap (λ (n : ℕ). proposalsOk n (session (start before) .proposals)) (count before)
 
 two-requires : tie.Need-two-requires
-two-requires c κs = let before = c .before .before .before in copy-whole (session before .sheet) (accepted before)
+two-requires c κs = let before = c .before .before in copy-whole (session (start before) .sheet) (accepted before)
 
 returns : tie.Need-returns
 returns c =
-    let s = c .before .before .before .args .s in
+    let s = session (c .before .before) in
     sym (fails (wellFormed s) (λ t. failed _ (stopped (c .before .sheet-ok .ensures) (c .if1 .taken)) (passed-says s .0 t .sheet)))
 
 returns-2 : tie.Need-returns-2
 returns-2 c =
-    let s = session (c .before .before .before .before .before .before) in
+    let s = session (start (c .before .before .before .before .before)) in
     sym (fails (wellFormed s) (λ t. failed _ (stopped (marks (c .before)) (c .if2 .taken)) (passed-says s .0 t .marks)))
 
 returns-3 : tie.Need-returns-3
 returns-3 c =
-    let s = session (first (c .before .before .before .before)) in
+    let s = session (start (first (c .before .before))) in
     sym (fails (wellFormed s) (λ t. failed _ (stopped (published (c .before)) (c .if3 .taken)) (passed-says s .0 t .published)))
 
 returns-4 : tie.Need-returns-4
 returns-4 c =
-    let s = session (first (second (c .before .before .before .before))) in
+    let s = session (start (first (second (c .before .before)))) in
     sym (fails (wellFormed s) (λ t. failed _ (stopped (proposals (c .before)) (c .if4 .taken)) (passed-says s .0 t .proposals)))
 
+few : (c : tie.Else1) → getD (session (start c) .sheet) 5 0 ≤ 16
+few c = most-parties (session (start c) .sheet) (accepted c)
+
+cast-published-ok : tie.Need-cast-published-ok
+cast-published-ok c = omega (arith, few (first c))
+
+cast-proposals-ok : tie.Need-cast-proposals-ok
+cast-proposals-ok c = omega (arith, few (first (second c)))
+
 parties-ok-requires : tie.Need-parties-ok-requires
-parties-ok-requires c κs = let before = first (second (third (c .before .before))) in most-parties (session before .sheet) (accepted before)
+parties-ok-requires c κs = few (first (second (third c)))
 
 returns-5 : tie.Need-returns-5
 returns-5 c =
-    let four = c .before .before .before in
+    let four = c .before in
     let three = third four in
     let two = second three in
     let one = first two in
-    let s = session one in
+    let s = session (start one) in
     let sheets = passed (one .before .sheet-ok .ensures) (one .if1 .left) in
     let marked = passed (marks (two .before)) (two .if2 .left) in
     let candidates = passed (published (three .before)) (three .if3 .left) in
@@ -96,21 +109,20 @@ returns-5 c =
     ∙ ap (λ (n : ℕ). partiesOk n (s .published) (s .parties)) (count one)
     ∙ last _ (both (both (both sheets marked) candidates) proposed)
 
-pub is-well-formed-spec : {M : Type 1} → statement M
-is-well-formed-spec =
+pub parts-well-formed-spec : {M : Type 1} → statement M
+parts-well-formed-spec =
     tie.close
     (tie.spec
     (λ c κs. search needs)
     returns
     (λ c. search needs)
-    (λ c. search needs)
     two-requires
     (λ c κs. search needs)
     returns-2
-    (λ c. search needs)
+    cast-published-ok
     (λ c κs. search needs)
     returns-3
-    (λ c. search needs)
+    cast-proposals-ok
     (λ c κs. search needs)
     returns-4
     parties-ok-requires
