@@ -1,8 +1,9 @@
 -- A call for a party is refused where the session is not well formed, then where the party is none of the session's; past both tests it is answered.
 use Prim.Native.Nat.{ℕ, _≤_}
-use mathlib.Core.Path.{_≡_, sym, ap, _∙_}
+use mathlib.Core.Path.{_≡_, refl, sym, ap, _∙_}
 use mathlib.Core.Bool.{Bool, true, false, not, _&&_, cond}
 use native.Mathlib.Nat.{le-trans}
+use native.Mathlib.Omega.{arith}
 use lib.Dec.{T}
 use lib.ListN.{getD}
 use Rattle.sheet.specs.Check.{within}
@@ -11,7 +12,7 @@ use Rattle.sheet.proofs.Folds.{holds, held}
 use Rattle.state.specs.Session.{carried, layout}
 use Rattle.state.specs.WellFormed.{wellFormed}
 use Rattle.state.specs.declared.kept.Session.{Session}
-use Rattle.state.proofs.Tested.{passed, stopped}
+use Rattle.state.proofs.Tested.{passed}
 use Rattle.state.proofs.Joins.{within-words}
 use Rattle.state.proofs.Carried.{carried-parties}
 use Rattle.state.proofs.FormWords.{well-formed-says}
@@ -28,17 +29,28 @@ module _ (s : Session) (formed : T (wellFormed s)) where
   pub parties-few : layout s .parties ≤ 16
   parties-few = accepted .before .before .before .header .partiesMost
 
--- ---- the answers, by the tests
+-- the byte is the layout's number of parties, so the code's test of a party is the definition's
+module _ (s : Session) (i : ℕ) {w : Bool} (formed : w ≡ wellFormed s) (n : not w ≡ false) where
+  pub is-formed : wellFormed s ≡ true
+  is-formed = passed formed n
 
-module _ (w b : Bool) (s after : Session) (value : ℕ) where
-  told-9 : w ≡ false → (s ≡ cond (w && b) after s) × (told 9 0 ≡ cond w (cond b (told 0 value) (told 10 0)) (told 9 0))
-  told-9 e = (rw e, rw e)
+  pub byte-party : {b : Bool} → b ≡ within 1 (getD (s .sheet) 5 0) i → b ≡ within 1 (layout s .parties) i
+  byte-party e = e ∙ ap (λ (m : ℕ). within 1 m i) (parties-byte s (held (wellFormed s) is-formed))
 
-  told-10 : w ≡ true → b ≡ false → (s ≡ cond (w && b) after s) × (told 10 0 ≡ cond w (cond b (told 0 value) (told 10 0)) (told 9 0))
-  told-10 e f = (rw (e, f), rw (e, f))
+-- ---- the answer, by the two tests
 
-  told-0 : w ≡ true → b ≡ true → (after ≡ cond (w && b) after s) × (told 0 value ≡ cond w (cond b (told 0 value) (told 10 0)) (told 9 0))
-  told-0 e f = (rw (e, f), rw (e, f))
+module _ (w b : Bool) (value : ℕ) where
+  abbrev Answer : Told
+  Answer = cond w (cond b (told 0 value) (told 10 0)) (told 9 0)
+
+  pub told-9 : w ≡ false → told 9 0 ≡ Answer
+  told-9 e = rw e
+
+  pub told-10 : w ≡ true → b ≡ false → told 10 0 ≡ Answer
+  told-10 e f = rw (e, f)
+
+  pub told-0 : w ≡ true → b ≡ true → told 0 value ≡ Answer
+  told-0 e f = rw (e, f)
 
 -- past both tests
 pub record Past (s : Session) (i : ℕ) : Type 0 where
@@ -48,34 +60,37 @@ pub record Past (s : Session) (i : ℕ) : Type 0 where
   pub most : i ≤ layout s .parties
   pub few : i ≤ 16
 
-module _ (s : Session) (i : ℕ) {w : Bool} (formed : w ≡ wellFormed s) (n : not w ≡ false) where
-  well : T (wellFormed s)
-  well = held (wellFormed s) (passed formed n)
-
-  byte-party : within 1 (getD (s .sheet) 5 0) i ≡ within 1 (layout s .parties) i
-  byte-party = ap (λ (m : ℕ). within 1 m i) (parties-byte s well)
-
-  pub past : {b : Bool} → b ≡ within 1 (getD (s .sheet) 5 0) i → not b ≡ false → Past s i
-  past e m =
-      let (least, most) = within-words 1 (layout s .parties) i .says .0 (held _ (passed (e ∙ byte-party) m)) in
-      record { formed = well; parties = parties-byte s well; least = least; most = most; few = le-trans most (parties-few s well) }
-
--- a call makes `after` of the session, and answers `value`
-module _ (after : Session → ℕ → Session) (value : Session → ℕ → ℕ) (s : Session) (i : ℕ) where
+-- a call makes `after` of the session, and answers `value`; what it was told first is what `asked` tells
+module _ (s : Session) (i : ℕ) (after : Session) (value : ℕ) where
   abbrev Answers : Session → Told → Type 0
-  Answers t a = (t ≡ unlessKept s i (after s i)) × (a ≡ unlessRefused s i (value s i))
+  Answers t a = (t ≡ unlessKept s i after) × (a ≡ unlessRefused s i value)
 
-  abbrev party : Bool
-  party = within 1 (layout s .parties) i
-
-  pub answered : Past s i → Answers (after s i) (told 0 (value s i))
+  pub answered : Past s i → Answers after (told 0 value)
   answered p =
-      told-0 (wellFormed s) party s (after s i) (value s i) (holds (wellFormed s) (p .formed))
-      (holds party (within-words 1 (layout s .parties) i .says .1 (p .least, p .most)))
+      let formed = holds (wellFormed s) (p .formed) in
+      let party = holds (within 1 (layout s .parties) i) (within-words 1 (layout s .parties) i .says .1 (p .least, p .most)) in
+      (rw (formed, party), rw (formed, party))
 
-  module _ {w : Bool} (formed : w ≡ wellFormed s) where
-    pub not-formed : not w ≡ true → Answers s (told 9 0)
-    not-formed n = told-9 (wellFormed s) party s (after s i) (value s i) (stopped formed n)
+  pub refused : (t : Told) → t ≡ unlessRefused s i 0 → (t .number ≡ 0 → ⊥) → Answers s t
+  refused t e n = by (wellFormed s) (within 1 (layout s .parties) i) e
+    where
+      by : (w b : Bool) → t ≡ Answer w b 0 → (s ≡ cond (w && b) after s) × (t ≡ Answer w b value)
+      by true true f = absurd (n (ap (λ (a : Told). a .number) f))
+      by true false f = (refl, f)
+      by false b f = (refl, f)
 
-    pub no-party : not w ≡ false → {b : Bool} → b ≡ within 1 (getD (s .sheet) 5 0) i → not b ≡ true → Answers s (told 10 0)
-    no-party n e m = told-10 (wellFormed s) party s (after s i) (value s i) (passed formed n) (stopped (e ∙ byte-party s i formed n) m)
+pub past : (s : Session) (i : ℕ) (t : Told) → t ≡ unlessRefused s i 0 → t .number ≡ 0 → Past s i
+past s i t e n = by (wellFormed s) (within 1 (layout s .parties) i) e (λ h. h) (within-words 1 (layout s .parties) i .says .0)
+  where
+    by : (w b : Bool) → t ≡ Answer w b 0 → (T w → T (wellFormed s)) → (T b → (1 ≤ i) × (i ≤ layout s .parties)) → Past s i
+    by true true f formed party =
+        let (least, most) = party tt in
+        record {
+          formed = formed tt;
+          parties = parties-byte s (formed tt);
+          least = least;
+          most = most;
+          few = le-trans most (parties-few s (formed tt));
+        }
+    by true false f formed party = absurd (omega (arith, n, ap (λ (a : Told). a .number) f))
+    by false b f formed party = absurd (omega (arith, n, ap (λ (a : Told). a .number) f))

@@ -52,15 +52,15 @@ module _ (sheet proposals : List ℕ) (rules : Rules6 sheet) (count : length pro
       call-entry = by (ltb b 128) refl
         where
           by : (t : Bool) → ltb b 128 ≡ t → cond t (stepped s b) (stopped s (b - 128)) ≡ cond t (step s b) (stop s (b - 128))
-          by true e = sym (answered step placeActed s b (low (ltb-true b 128 e)) .0)
-          by false e = sym (answered stop status s (b - 128) (high (ltb-false b 128 e)) .0)
+          by true e = sym (answered s b (step s b) (placeActed s b) (low (ltb-true b 128 e)) .0)
+          by false e = sym (answered s (b - 128) (stop s (b - 128)) (status s (b - 128)) (high (ltb-false b 128 e)) .0)
 
       call-told : callTold s b .number ≡ 0
       call-told = by (ltb b 128) refl
         where
           by : (t : Bool) → ltb b 128 ≡ t → cond t (stepTold s b) (stopTold s (b - 128)) .number ≡ 0
-          by true e = ap (λ (a : Told). a .number) (sym (answered step placeActed s b (low (ltb-true b 128 e)) .1))
-          by false e = ap (λ (a : Told). a .number) (sym (answered stop status s (b - 128) (high (ltb-false b 128 e)) .1))
+          by true e = ap (λ (a : Told). a .number) (sym (answered s b (step s b) (placeActed s b) (low (ltb-true b 128 e)) .1))
+          by false e = ap (λ (a : Told). a .number) (sym (answered s (b - 128) (stop s (b - 128)) (status s (b - 128)) (high (ltb-false b 128 e)) .1))
 
   -- ---- a schedule of good bytes
 

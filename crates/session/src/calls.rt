@@ -2,16 +2,19 @@
 ghost use mathlib.Core.Path.{_≡_};
 ghost use mathlib.Core.Bool.{cond};
 ghost use Prim.Native.Nat.{_≤_, _<_, _-_};
-ghost use lib.Dec.{T, eqb};
+ghost use lib.ListN.{length, take};
+ghost use lib.Dec.{eqb};
 ghost use Rattle.sheet.specs.Lists.{from};
 ghost use Rattle.sheet.specs.Check.{within};
-ghost use Rattle.state.specs.Session.{layout, partyOf};
-ghost use Rattle.state.specs.WellFormed.{wellFormed};
-ghost use Rattle.session.specs.Step.{isLive, acted, stoppedParty};
-ghost use Rattle.session.specs.Calls.{toldOf, stepTold, stepped, stopTold, stopped, countOf, liveTold};
+ghost use Rattle.sheet.specs.Rows.{layoutOf};
+ghost use Rattle.state.specs.Session.{ofParts, partyOf};
+ghost use Rattle.session.specs.Step.{isLive, stoppedParty, counted, placeOf, partyAfter, marksAfter, publishedAfter};
+ghost use Rattle.session.specs.Ready.{Ready};
+ghost use Rattle.session.specs.Calls.{toldOf, unlessRefused, stepTold, stepped, stopTold, stopped, countOf, liveTold};
 use crate::act;
 use crate::reply::After;
 use crate::reply::Reply;
+use crate::reply::Turn;
 use sheet::Refusal;
 use state::Party;
 use state::Session;
@@ -23,56 +26,97 @@ fn is_party(n: u8, party: u32) -> bool
     if 1 <= party { party <= n as u32 } else { false }
 }
 
-// The act of a live party, put back into the session.
-fn act_in(s: Session, i: u8, n: u8) -> Session
-    requires { ⌜ (T (wellFormed s)) × (n ≡ layout s .parties) × (1 ≤ i) × (i ≤ n) × (T (isLive (partyOf (s .parties) i))) ⌝ }
-    ensures { λ r. ⌜ r ≡ acted s i ⌝ }
+// Why a call for a party is refused: 9, then 10. Where it is not, the value 0.
+fn asked<'a>(
+    sheet: &'a [u8; 1898],
+    proposals: &'a [u32; 16],
+    marks: &'a [u8; 1024],
+    published: &'a [u8; 256],
+    parties: [Party; 16],
+    party: u32,
+) -> Reply
+    ensures { λ r. ⌜ toldOf r ≡ unlessRefused (ofParts (now (sheet .entry)) (now (proposals .entry)) (now (marks .entry)) (now (published .entry)) parties) party 0 ⌝ }
 {
-    let sheet = s.sheet;
-    let len = wellformed::carried_length(&sheet);
-    let proposals = s.proposals;
-    let mut marks = s.marks;
-    let mut published = s.published;
-    let at = i as usize - 1;
-    let p = s.parties[at];
-    let q = act::act(
-        &sheet[..len],
-        &proposals,
-        &mut marks,
-        &mut published,
-        p,
-        i,
-        n,
-    );
-    let mut t = s;
-    t.marks = marks;
-    t.published = published;
-    t.parties[at] = q;
-    t
+    if !wellformed::parts_well_formed(sheet, proposals, marks, published, parties) {
+        return Reply::Refused(Refusal::Session);
+    }
+    if !is_party(sheet[5], party) {
+        return Reply::Refused(Refusal::Party);
+    }
+    Reply::Gave(0)
+}
+
+// The act of a live party on the parts of a session, whose sheet has len bytes: its entries afterwards.
+fn act_on(
+    sheet: &[u8],
+    len: usize,
+    proposals: &[u32; 16],
+    marks: &mut [u8; 1024],
+    published: &mut [u8; 256],
+    p: Party,
+    i: u8,
+    n: u8,
+) -> Party
+    requires { ⌜ (len ≤ length (now sheet)) × (Ready (take len (now sheet)) (now published) i p n) ⌝ }
+    ensures { λ r. ⌜ (r ≡ counted (partyAfter (layoutOf (take len (now (sheet .entry)))) (now (proposals .entry)) (now (marks .entry)) (now (published .entry)) i p (placeOf (p .place)))) × ((now (marks .exit) ≡ marksAfter (layoutOf (take len (now (sheet .entry)))) i p (now (marks .entry)) (placeOf (p .place))) × (now (published .exit) ≡ publishedAfter i p (now (published .entry)) (placeOf (p .place)))) ⌝ }
+{
+    act::act(&sheet[..len], proposals, marks, published, p, i, n)
+}
+
+// A step of party `party`, on the parts of a session: the place acted on, or 8 where nothing changes.
+pub fn step_parts<'a>(
+    sheet: &'a [u8; 1898],
+    proposals: &'a [u32; 16],
+    marks: &mut [u8; 1024],
+    published: &mut [u8; 256],
+    parties: [Party; 16],
+    party: u32,
+) -> Turn
+    ensures { λ r. ⌜ ofParts (now (sheet .entry)) (now (proposals .entry)) (now (marks .exit)) (now (published .exit)) (r .parties) ≡ stepped (ofParts (now (sheet .entry)) (now (proposals .entry)) (now (marks .entry)) (now (published .entry)) parties) party ⌝ }
+    ensures { λ r. ⌜ toldOf (r .reply) ≡ stepTold (ofParts (now (sheet .entry)) (now (proposals .entry)) (now (marks .entry)) (now (published .entry)) parties) party ⌝ }
+{
+    let reply = asked(sheet, proposals, marks, published, parties, party);
+    if let Reply::Refused(_) = reply {
+        return Turn { parties, reply };
+    }
+    let at = party as usize - 1;
+    let p = parties[at];
+    if 2 <= p.status {
+        let reply = Reply::Gave(8);
+        return Turn { parties, reply };
+    }
+    let len = wellformed::carried_length(sheet);
+    let n = sheet[5];
+    let mut after = parties;
+    after[at] = act_on(sheet, len, proposals, marks, published, p, party as u8, n);
+    let reply = Reply::Gave(p.place);
+    Turn {
+        parties: after,
+        reply,
+    }
 }
 
 // A step of party `party`: the place acted on, or 8 where nothing changes.
 pub fn step_value(s: Session, party: u32) -> After
     ensures { λ r. ⌜ (r .session ≡ stepped s party) × (toldOf (r .reply) ≡ stepTold s party) ⌝ }
 {
-    if !wellformed::is_well_formed(s) {
-        let reply = Reply::Refused(Refusal::Session);
-        return After { session: s, reply };
-    }
-    let sheet = s.sheet;
-    let n = sheet[5];
-    if !is_party(n, party) {
-        let reply = Reply::Refused(Refusal::Party);
-        return After { session: s, reply };
-    }
-    let at = party as usize - 1;
-    let p = s.parties[at];
-    if 2 <= p.status {
-        let reply = Reply::Gave(8);
-        return After { session: s, reply };
-    }
-    let session = act_in(s, party as u8, n);
-    let reply = Reply::Gave(p.place);
+    let mut marks = s.marks;
+    let mut published = s.published;
+    let parties = s.parties;
+    let turn = step_parts(
+        &s.sheet,
+        &s.proposals,
+        &mut marks,
+        &mut published,
+        parties,
+        party,
+    );
+    let after = turn.parties;
+    let mut session = s;
+    session.marks = marks;
+    session.published = published;
+    session.parties = after;
+    let reply = turn.reply;
     After { session, reply }
 }
 
@@ -97,27 +141,52 @@ pub(crate) fn stop_party(p: Party) -> Party
     }
 }
 
+// A stop of party `party`, on the parts of a session: its status afterwards.
+pub fn stop_parts<'a>(
+    sheet: &'a [u8; 1898],
+    proposals: &'a [u32; 16],
+    marks: &'a [u8; 1024],
+    published: &'a [u8; 256],
+    parties: [Party; 16],
+    party: u32,
+) -> Turn
+    ensures { λ r. ⌜ ofParts (now (sheet .entry)) (now (proposals .entry)) (now (marks .entry)) (now (published .entry)) (r .parties) ≡ stopped (ofParts (now (sheet .entry)) (now (proposals .entry)) (now (marks .entry)) (now (published .entry)) parties) party ⌝ }
+    ensures { λ r. ⌜ toldOf (r .reply) ≡ stopTold (ofParts (now (sheet .entry)) (now (proposals .entry)) (now (marks .entry)) (now (published .entry)) parties) party ⌝ }
+{
+    let reply = asked(sheet, proposals, marks, published, parties, party);
+    if let Reply::Refused(_) = reply {
+        return Turn { parties, reply };
+    }
+    let at = party as usize - 1;
+    let p = parties[at];
+    let q = stop_party(p);
+    let mut after = parties;
+    after[at] = q;
+    let reply = Reply::Gave(q.status);
+    Turn {
+        parties: after,
+        reply,
+    }
+}
+
 // A stop of party `party`: its status afterwards.
 pub fn stop_value(s: Session, party: u32) -> After
     ensures { λ r. ⌜ (r .session ≡ stopped s party) × (toldOf (r .reply) ≡ stopTold s party) ⌝ }
 {
-    if !wellformed::is_well_formed(s) {
-        let reply = Reply::Refused(Refusal::Session);
-        return After { session: s, reply };
-    }
-    let sheet = s.sheet;
-    let n = sheet[5];
-    if !is_party(n, party) {
-        let reply = Reply::Refused(Refusal::Party);
-        return After { session: s, reply };
-    }
-    let at = party as usize - 1;
-    let p = s.parties[at];
-    let q = stop_party(p);
-    let mut t = s;
-    t.parties[at] = q;
-    let reply = Reply::Gave(q.status);
-    After { session: t, reply }
+    let parties = s.parties;
+    let turn = stop_parts(
+        &s.sheet,
+        &s.proposals,
+        &s.marks,
+        &s.published,
+        parties,
+        party,
+    );
+    let after = turn.parties;
+    let mut session = s;
+    session.parties = after;
+    let reply = turn.reply;
+    After { session, reply }
 }
 
 fn count_live(parties: [Party; 16], n: u8) -> u8
@@ -137,14 +206,26 @@ fn count_live(parties: [Party; 16], n: u8) -> u8
     count
 }
 
+// How many parties are live, of the parts of a session.
+pub fn live_parts<'a>(
+    sheet: &'a [u8; 1898],
+    proposals: &'a [u32; 16],
+    marks: &'a [u8; 1024],
+    published: &'a [u8; 256],
+    parties: [Party; 16],
+) -> Reply
+    ensures { λ r. ⌜ toldOf r ≡ liveTold (ofParts (now (sheet .entry)) (now (proposals .entry)) (now (marks .entry)) (now (published .entry)) parties) ⌝ }
+{
+    if !wellformed::parts_well_formed(sheet, proposals, marks, published, parties) {
+        return Reply::Refused(Refusal::Session);
+    }
+    Reply::Gave(count_live(parties, sheet[5]))
+}
+
 // How many parties are live.
 pub fn live_value(s: Session) -> Reply
     ensures { λ r. ⌜ toldOf r ≡ liveTold s ⌝ }
 {
-    if !wellformed::is_well_formed(s) {
-        return Reply::Refused(Refusal::Session);
-    }
-    let sheet = s.sheet;
     let parties = s.parties;
-    Reply::Gave(count_live(parties, sheet[5]))
+    live_parts(&s.sheet, &s.proposals, &s.marks, &s.published, parties)
 }

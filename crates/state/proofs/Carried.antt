@@ -1,7 +1,8 @@
 -- The carried sheet is the front of the copy that its field says, so an accepted one has the copy's header.
 use Prim.Native.Nat.{ℕ, _≤_, min}
-use mathlib.Core.Path.{_≡_, _∙_}
+use mathlib.Core.Path.{_≡_, sym, ap, _∙_}
 use mathlib.Core.List.{List}
+use native.Mathlib.Nat.{min-le-right}
 use native.Mathlib.Omega.{arith, min-cases}
 use lib.ListN.{length, getD, take, length-take}
 use lib.Seq.{take-all, take-length, getD-take}
@@ -12,10 +13,21 @@ use Rattle.sheet.proofs.Numbers.{num-read}
 use Rattle.state.specs.Session.{carriedOf}
 
 -- the front that the copy has
-pub carried-front : (s : List ℕ) → take (min (num s 0 2) (length s)) s ≡ carriedOf s
+carried-front : (s : List ℕ) → take (min (num s 0 2) (length s)) s ≡ carriedOf s
 carried-front s =
     min-cases (num s 0 2) (length s) (take (min (num s 0 2) (length s)) s ≡ carriedOf s) (λ h e. rw e)
     (λ h e. rw (e, take-length s, take-all (num s 0 2) s))
+
+-- the same front, as the code counts it in a copy of 1,898 bytes
+module _ (s : List ℕ) (size len : ℕ) (long : length s ≡ size) (is : len ≡ min (num s 0 2) size) where
+  pub front-fits : len ≤ length s
+  front-fits = omega (arith, long, is, min-le-right (num s 0 2) size)
+
+  pub front-carried : take len s ≡ carriedOf s
+  front-carried = ap (λ (n : ℕ). take n s) (is ∙ ap (min (num s 0 2)) (sym long)) ∙ carried-front s
+
+  pub length-carried : length (carriedOf s) ≡ len
+  length-carried = length-take (num s 0 2) s ∙ ap (min (num s 0 2)) long ∙ sym is
 
 module _ (s : List ℕ) (r : Rules6 (carriedOf s)) where
   whole : 8 ≤ length (carriedOf s)

@@ -4,6 +4,5 @@ pub mod Zeros
 pub mod Joins
 pub mod Carried
 pub mod FormWords
-pub mod Sizes
 pub mod Filled
 pub mod Verdicts

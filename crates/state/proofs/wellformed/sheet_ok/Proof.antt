@@ -1,19 +1,16 @@
 -- What is checked is the carried sheet: the front of the copy, as long as the carried sheet; past it the copy is asked for zeros.
-use Prim.Native.Nat.{ℕ, _-_, min}
+use Prim.Native.Nat.{ℕ, _-_}
 use mathlib.Core.Path.{_≡_, sym, ap, _∙_}
 use mathlib.Core.Bool.{Bool}
 use mathlib.Core.List.{List}
-use native.Mathlib.Nat.{min-le-right}
-use native.Mathlib.Omega.{arith}
 use borrow.Author.Needs.{needs}
 use lib.Dec.{eqb}
-use lib.ListN.{length, getD, take, length-take}
+use lib.ListN.{length, getD, take}
 use Rattle.sheet.specs.Lists.{from, all}
-use Rattle.sheet.specs.Bytes.{num}
 use Rattle.sheet.specs.Check.{checkAnswer}
 use Rattle.state.specs.Session.{carriedOf}
 use Rattle.state.proofs.Tested.{passed, stopped, last, ends}
-use Rattle.state.proofs.Carried.{carried-front}
+use Rattle.state.proofs.Carried.{front-fits, front-carried, length-carried}
 use Rattle.state.proofs.wellformed.sheet_ok.Statement.{statement}
 use Rattle.state.proofs.wellformed.sheet_ok.Tie as tie
 
@@ -28,15 +25,13 @@ whole : (c : tie.After-is-accepted-arg) → length (copy c) ≡ 1898
 whole c = search needs
 
 front : (c : tie.After-is-accepted-arg) → take (size c) (copy c) ≡ carriedOf (copy c)
-front c =
-    ap (λ (n : ℕ). take n (copy c)) (c .before .carried-length .ensures ∙ ap (min (num (copy c) 0 2)) (sym (whole c))) ∙ carried-front (copy c)
+front c = front-carried (copy c) 1898 (size c) (whole c) (c .before .carried-length .ensures)
 
 long : (c : tie.After-is-accepted-arg) → length (carriedOf (copy c)) ≡ size c
-long c = length-take (num (copy c) 0 2) (copy c) ∙ ap (min (num (copy c) 0 2)) (whole c) ∙ sym (c .before .carried-length .ensures)
+long c = length-carried (copy c) 1898 (size c) (whole c) (c .before .carried-length .ensures)
 
 is-accepted-requires : tie.Need-is-accepted-requires
-is-accepted-requires c κs =
-    omega (arith, c .before .carried-length .ensures, whole c, min-le-right (num (copy c) 0 2) 1898)
+is-accepted-requires c κs = front-fits (copy c) 1898 (size c) (whole c) (c .before .carried-length .ensures)
 
 asked : (c : tie.After-is-accepted) → c .is-accepted .result ≡ eqb (checkAnswer (carriedOf (copy (c .before))) .number) 0
 asked c = c .is-accepted .ensures ∙ ap (λ (l : List ℕ). eqb (checkAnswer l .number) 0) (front (c .before))
