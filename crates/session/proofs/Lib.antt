@@ -5,9 +5,6 @@ pub mod Copies
 pub mod Replies
 pub mod Refusals
 pub mod Openings
-pub mod Lending
-pub mod LentCall
-pub mod LocalCall
 pub mod Changes
 pub mod Views
 pub mod Holder

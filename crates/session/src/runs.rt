@@ -9,8 +9,8 @@ ghost use Rattle.sheet.specs.Words.{Rules6};
 ghost use Rattle.sheet.specs.Answers.{answerOf};
 ghost use Rattle.session.specs.Run.{byteOk, ran, partyBytes, recordLength, recordHead, recordBytes, runAnswer, runOut};
 use crate::act;
-use crate::calls;
 use crate::opening;
+use crate::parts;
 use sheet::Refusal;
 use sheet::Verdict;
 use state::Party;
@@ -73,7 +73,7 @@ fn obey(sheet: &[u8], proposals: &[u32], schedule: &[u8], n: u8) -> [Party; 16]
         if p.status < 2 {
             match b {
                 0..=127 => parties[at] = act::act(sheet, &own, &mut marks, &mut published, p, i, n),
-                _ => parties[at] = calls::stop_party(p),
+                _ => parties[at] = parts::stop_party(p),
             }
         }
         j += 1;

@@ -1,0 +1,177 @@
+// The calls on the parts of a session: step, stop and live.
+ghost use mathlib.Core.Path.{_≡_};
+ghost use mathlib.Core.Bool.{cond};
+ghost use Prim.Native.Nat.{_≤_, _<_, _-_};
+ghost use lib.ListN.{length, take};
+ghost use lib.Dec.{eqb};
+ghost use Rattle.sheet.specs.Lists.{from};
+ghost use Rattle.sheet.specs.Check.{within};
+ghost use Rattle.sheet.specs.Rows.{layoutOf};
+ghost use Rattle.state.specs.Session.{ofParts, partyOf};
+ghost use Rattle.session.specs.Step.{isLive, stoppedParty, counted, placeOf, partyAfter, marksAfter, publishedAfter};
+ghost use Rattle.session.specs.Ready.{Ready};
+ghost use Rattle.session.specs.Calls.{toldOf, unlessRefused, stepTold, stepped, stopTold, stopped, countOf, liveTold};
+use crate::act;
+use crate::reply::Reply;
+use crate::reply::Turn;
+use sheet::Refusal;
+use state::Party;
+use state::wellformed;
+
+fn is_party(n: u8, party: u32) -> bool
+    ensures { λ r. ⌜ r ≡ within 1 n party ⌝ }
+{
+    if 1 <= party { party <= n as u32 } else { false }
+}
+
+// Why a call for a party is refused: 9, then 10. Where it is not, the value 0.
+fn asked<'a>(
+    sheet: &'a [u8; 1898],
+    proposals: &'a [u32; 16],
+    marks: &'a [u8; 1024],
+    published: &'a [u8; 256],
+    parties: [Party; 16],
+    party: u32,
+) -> Reply
+    ensures { λ r. ⌜ toldOf r ≡ unlessRefused (ofParts (now (sheet .entry)) (now (proposals .entry)) (now (marks .entry)) (now (published .entry)) parties) party 0 ⌝ }
+{
+    if !wellformed::parts_well_formed(sheet, proposals, marks, published, parties) {
+        return Reply::Refused(Refusal::Session);
+    }
+    if !is_party(sheet[5], party) {
+        return Reply::Refused(Refusal::Party);
+    }
+    Reply::Gave(0)
+}
+
+// The act of a live party on the parts of a session, whose sheet has len bytes: its entries afterwards.
+fn act_on(
+    sheet: &[u8],
+    len: usize,
+    proposals: &[u32; 16],
+    marks: &mut [u8; 1024],
+    published: &mut [u8; 256],
+    p: Party,
+    i: u8,
+    n: u8,
+) -> Party
+    requires { ⌜ (len ≤ length (now sheet)) × (Ready (take len (now sheet)) (now published) i p n) ⌝ }
+    ensures { λ r. ⌜ (r ≡ counted (partyAfter (layoutOf (take len (now (sheet .entry)))) (now (proposals .entry)) (now (marks .entry)) (now (published .entry)) i p (placeOf (p .place)))) × ((now (marks .exit) ≡ marksAfter (layoutOf (take len (now (sheet .entry)))) i p (now (marks .entry)) (placeOf (p .place))) × (now (published .exit) ≡ publishedAfter i p (now (published .entry)) (placeOf (p .place)))) ⌝ }
+{
+    act::act(&sheet[..len], proposals, marks, published, p, i, n)
+}
+
+// A step of party `party`, on the parts of a session: the place acted on, or 8 where nothing changes.
+pub fn step_parts<'a>(
+    sheet: &'a [u8; 1898],
+    proposals: &'a [u32; 16],
+    marks: &mut [u8; 1024],
+    published: &mut [u8; 256],
+    parties: [Party; 16],
+    party: u32,
+) -> Turn
+    ensures { λ r. ⌜ ofParts (now (sheet .entry)) (now (proposals .entry)) (now (marks .exit)) (now (published .exit)) (r .parties) ≡ stepped (ofParts (now (sheet .entry)) (now (proposals .entry)) (now (marks .entry)) (now (published .entry)) parties) party ⌝ }
+    ensures { λ r. ⌜ toldOf (r .reply) ≡ stepTold (ofParts (now (sheet .entry)) (now (proposals .entry)) (now (marks .entry)) (now (published .entry)) parties) party ⌝ }
+{
+    let reply = asked(sheet, proposals, marks, published, parties, party);
+    if let Reply::Refused(_) = reply {
+        return Turn { parties, reply };
+    }
+    let at = party as usize - 1;
+    let p = parties[at];
+    if 2 <= p.status {
+        let reply = Reply::Gave(8);
+        return Turn { parties, reply };
+    }
+    let len = wellformed::carried_length(sheet);
+    let n = sheet[5];
+    let mut after = parties;
+    after[at] = act_on(sheet, len, proposals, marks, published, p, party as u8, n);
+    let reply = Reply::Gave(p.place);
+    Turn {
+        parties: after,
+        reply,
+    }
+}
+
+// A party that has decided stays so; any other is stopped.
+fn status_after(status: u8) -> u8
+    ensures { λ r. ⌜ r ≡ cond (eqb status 2) 2 3 ⌝ }
+{
+    if status == 2 { 2 } else { 3 }
+}
+
+pub(crate) fn stop_party(p: Party) -> Party
+    ensures { λ r. ⌜ r ≡ stoppedParty p ⌝ }
+{
+    Party {
+        status: status_after(p.status),
+        place: p.place,
+        round: p.round,
+        k: p.k,
+        candidate: p.candidate,
+        steps: p.steps,
+        decision: p.decision,
+    }
+}
+
+// A stop of party `party`, on the parts of a session: its status afterwards.
+pub fn stop_parts<'a>(
+    sheet: &'a [u8; 1898],
+    proposals: &'a [u32; 16],
+    marks: &'a [u8; 1024],
+    published: &'a [u8; 256],
+    parties: [Party; 16],
+    party: u32,
+) -> Turn
+    ensures { λ r. ⌜ ofParts (now (sheet .entry)) (now (proposals .entry)) (now (marks .entry)) (now (published .entry)) (r .parties) ≡ stopped (ofParts (now (sheet .entry)) (now (proposals .entry)) (now (marks .entry)) (now (published .entry)) parties) party ⌝ }
+    ensures { λ r. ⌜ toldOf (r .reply) ≡ stopTold (ofParts (now (sheet .entry)) (now (proposals .entry)) (now (marks .entry)) (now (published .entry)) parties) party ⌝ }
+{
+    let reply = asked(sheet, proposals, marks, published, parties, party);
+    if let Reply::Refused(_) = reply {
+        return Turn { parties, reply };
+    }
+    let at = party as usize - 1;
+    let p = parties[at];
+    let q = stop_party(p);
+    let mut after = parties;
+    after[at] = q;
+    let reply = Reply::Gave(q.status);
+    Turn {
+        parties: after,
+        reply,
+    }
+}
+
+fn count_live(parties: [Party; 16], n: u8) -> u8
+    requires { ⌜ n ≤ 16 ⌝ }
+    ensures { λ r. ⌜ r ≡ countOf (λ i. isLive (partyOf parties i)) (from 1 n) ⌝ }
+{
+    let mut count: u8 = 0;
+    let mut i: u8 = 1;
+    while i <= n {
+        let at = i as usize - 1;
+        let p = parties[at];
+        if p.status < 2 {
+            count += 1;
+        }
+        i += 1;
+    }
+    count
+}
+
+// How many parties are live, of the parts of a session.
+pub fn live_parts<'a>(
+    sheet: &'a [u8; 1898],
+    proposals: &'a [u32; 16],
+    marks: &'a [u8; 1024],
+    published: &'a [u8; 256],
+    parties: [Party; 16],
+) -> Reply
+    ensures { λ r. ⌜ toldOf r ≡ liveTold (ofParts (now (sheet .entry)) (now (proposals .entry)) (now (marks .entry)) (now (published .entry)) parties) ⌝ }
+{
+    if !wellformed::parts_well_formed(sheet, proposals, marks, published, parties) {
+        return Reply::Refused(Refusal::Session);
+    }
+    Reply::Gave(count_live(parties, sheet[5]))
+}
