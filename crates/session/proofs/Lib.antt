@@ -1,7 +1,6 @@
 -- Laws that several proofs cite; each file says its argument in its first line.
 pub mod Stamps
 pub mod RowOf
-pub mod Copies
 pub mod Replies
 pub mod Refusals
 pub mod Openings

@@ -5,4 +5,5 @@ pub mod Joins
 pub mod Carried
 pub mod FormWords
 pub mod Filled
+pub mod Copies
 pub mod Verdicts

@@ -7,7 +7,7 @@ use native.Mathlib.Omega.{arith}
 use lib.ListN.{replicate}
 use Rattle.sheet.specs.Lists.{from}
 use Rattle.state.specs.Session.{freshParty, noParty}
-use Rattle.session.proofs.Copies.{Front, front-first, front-on, front-end, length-range, range-at}
+use Rattle.state.proofs.Copies.{Front, front-first, front-on, front-end, length-range, range-at}
 use Rattle.session.proofs.opening.fresh_parties.Statement.{statement}
 use Rattle.session.proofs.opening.fresh_parties.Tie as tie
 

@@ -4,7 +4,7 @@ use mathlib.Core.Path.{refl}
 use borrow.Author.Needs.{needs}
 use native.Mathlib.Omega.{arith}
 use lib.ListN.{length}
-use Rattle.session.proofs.Copies.{Front, front-first, front-on, front-end}
+use Rattle.state.proofs.Copies.{Front, front-first, front-on, front-end}
 use Rattle.session.proofs.opening.sheet_copy.Statement.{statement}
 use Rattle.session.proofs.opening.sheet_copy.Tie as tie
 
