@@ -17,7 +17,7 @@ use Rattle.state.specs.declared.kept.Session.{Session}
 use Rattle.state.proofs.Verdicts.{refused-number}
 use Rattle.session.specs.Calls.{openAnswer, opened}
 use Rattle.host.specs.Word.{answerWord}
-use Rattle.host.specs.Layout.{proposalsOf, sessionBytes}
+use Rattle.layout.specs.Layout.{proposalsOf, sessionBytes}
 use Rattle.host.specs.Calls.{proposalsFor, hostOpen, openBytes}
 use Rattle.host.proofs.Opened.{Opens, if-opened, if-refused}
 

@@ -20,11 +20,11 @@ use Rattle.state.proofs.Filled.{sheet-most}
 use Rattle.state.proofs.FormWords.{accepted-says}
 use Rattle.session.specs.Calls.{Told, told, openAnswer}
 use Rattle.session.specs.Run.{byteOk, recordLength, recordBytes, runAnswer, ran, runOut}
-use Rattle.session.proofs.Copies.{length-range}
-use Rattle.host.specs.Layout.{sessionBytes, sessionOf}
+use Rattle.state.proofs.Copies.{length-range}
+use Rattle.layout.specs.Layout.{sessionBytes, sessionOf}
 use Rattle.host.specs.Calls.{proposalsFor, hostOpen, openBytes, onSession, bytesAfter}
 use Rattle.host.specs.Says.{Leaves, SamePast}
-use Rattle.host.proofs.Layouts.{Full, length-full, full-session}
+use Rattle.layout.proofs.Layouts.{Full, length-full, full-session}
 use Rattle.host.proofs.Lengths.{full-fresh, full-obeyed, length-record}
 
 -- ---- bytes that are written where the number is 0

@@ -22,7 +22,7 @@ use Rattle.session.specs.Calls.{unlessKept}
 use Rattle.session.specs.Run.{partyBytes, recordLength, recordBytes, entry, obeyed}
 use Rattle.session.proofs.Stamps.{length-stamped}
 use Rattle.session.proofs.Changes.{step-either}
-use Rattle.host.proofs.Layouts.{Full}
+use Rattle.layout.proofs.Layouts.{Full}
 
 -- ---- one act
 

@@ -10,7 +10,7 @@ use lib.ListN.{length}
 use Rattle.state.specs.declared.kept.Session.{Session}
 use Rattle.session.specs.Calls.{Told, told}
 use Rattle.host.specs.Word.{toldWord}
-use Rattle.host.specs.Layout.{sessionBytes, sessionOf}
+use Rattle.layout.specs.Layout.{sessionBytes, sessionOf}
 use Rattle.host.specs.Calls.{onSession, bytesAfter}
 
 module _ (bytes : List ℕ) (tell : Session → Told) where

@@ -16,8 +16,8 @@ use Rattle.sheet.proofs.Folds.{held, failed}
 use Rattle.sheet.proofs.Says.{rows, writers}
 use Rattle.state.proofs.FormWords.{accepted-says}
 use Rattle.session.specs.Calls.{openAnswer}
-use Rattle.session.proofs.Copies.{length-range}
-use Rattle.host.specs.Layout.{proposalsOf}
+use Rattle.state.proofs.Copies.{length-range}
+use Rattle.layout.specs.Layout.{proposalsOf}
 use Rattle.host.specs.Calls.{unlessUnopened, proposalsFor}
 
 -- what is chosen where a test is passed has a property, and what where it is not

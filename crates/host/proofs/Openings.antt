@@ -23,11 +23,11 @@ use Rattle.builder.proofs.Givens.{given-ranges}
 use Rattle.builder.proofs.Theorems.{built-says}
 use Rattle.state.specs.Session.{freshSession}
 use Rattle.state.proofs.FormWords.{accepted-says}
-use Rattle.session.proofs.Copies.{length-range, range-at}
+use Rattle.state.proofs.Copies.{length-range, range-at}
 use Rattle.agreement.specs.Demand.{Opens}
-use Rattle.host.specs.Layout.{sessionBytes, Below}
+use Rattle.layout.specs.Layout.{sessionBytes, Below}
 use Rattle.host.specs.Calls.{proposalsFor, hostOpen, openBytes}
-use Rattle.host.proofs.Bytes.{below-cons, below-append, below-flat, below-bytes}
+use Rattle.layout.proofs.Bytes.{below-cons, below-append, below-flat, below-bytes}
 
 -- ---- the tests
 

@@ -31,7 +31,7 @@ use Rattle.session.specs.Calls.{Told, openAnswer, unlessRefused, stepTold, stop
 use Rattle.session.specs.Run.{byteOk, recordLength, runAnswer}
 use Rattle.session.proofs.Refusals.{parties-few}
 use Rattle.host.specs.Word.{word}
-use Rattle.host.specs.Layout.{sessionOf}
+use Rattle.layout.specs.Layout.{sessionOf}
 use Rattle.host.specs.Calls.{unlessUnopened, proposalsFor, onSession, badAt, hostOpen}
 use Rattle.host.specs.Says.{NoPosition, ReadBack}
 use Rattle.host.proofs.Packing.{word-number, word-value, word-position}

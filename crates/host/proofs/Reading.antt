@@ -10,11 +10,11 @@ use Rattle.sheet.proofs.Numbers.{num-drop}
 use Rattle.state.specs.Session.{noParty, partyOf}
 use Rattle.state.specs.declared.kept.Party.{Party}
 use Rattle.state.specs.declared.kept.Session.{Session}
-use Rattle.session.proofs.Copies.{range-at}
+use Rattle.state.proofs.Copies.{range-at}
 use Rattle.agreement.proofs.Readings.{Says}
-use Rattle.host.specs.Layout.{partyFrom, sessionBytes, Sized}
+use Rattle.layout.specs.Layout.{partyFrom, sessionBytes, Sized}
 use Rattle.host.specs.Demand.{placeIn, statusIn, stepsIn, decisionIn}
-use Rattle.host.proofs.Layouts.{decode-encode}
+use Rattle.layout.proofs.Layouts.{decode-encode}
 
 -- the bytes say p of party i
 abbrev pub In : List ℕ → ℕ → Party → Type 0

@@ -13,7 +13,7 @@ use Rattle.state.proofs.Verdicts.{refuses}
 use Rattle.session.specs.Calls.{toldOf}
 use Rattle.session.specs.declared.reply.Reply.{Reply}
 use Rattle.host.specs.Word.{toldWord}
-use Rattle.host.specs.Layout.{sessionBytes}
+use Rattle.layout.specs.Layout.{sessionBytes}
 use Rattle.host.proofs.given_back.Statement.{statement}
 use Rattle.host.proofs.given_back.Tie as tie
 

@@ -6,8 +6,8 @@ use borrow.Author.Needs.{needs}
 use lib.ListN.{take}
 use Rattle.sheet.specs.Answers.{answerOf}
 use Rattle.session.specs.Calls.{openAnswer, opened}
-use Rattle.host.specs.Layout.{proposalsOf}
-use Rattle.host.proofs.Filling.{front, front-length}
+use Rattle.layout.specs.Layout.{proposalsOf}
+use Rattle.layout.proofs.Filling.{front, front-length}
 use Rattle.host.proofs.HostOpen.{open-refused, open-short, open-filled}
 use Rattle.host.proofs.sepalsail_open.Statement.{statement}
 use Rattle.host.proofs.sepalsail_open.Tie as tie
