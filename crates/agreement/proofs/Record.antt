@@ -15,7 +15,8 @@ use Rattle.sheet.proofs.Numbers.{num-drop, num-bytes}
 use Rattle.state.specs.Session.{noParty, partyOf}
 use Rattle.state.specs.declared.kept.Party.{Party}
 use Rattle.state.specs.declared.kept.Session.{Session}
-use Rattle.session.specs.Run.{byteOk, partyBytes, recordHead, recordBytes, recordLength, runAnswer, ran, runOut}
+use Rattle.record.specs.Record.{partyBytes, recordHead, recordBytes, recordLength}
+use Rattle.session.specs.Run.{byteOk, runAnswer, ran, runOut}
 use Rattle.session.specs.Reach.{Reached}
 use Rattle.session.proofs.Openings.{opens}
 use Rattle.session.proofs.RunAnswers.{run-done, out-written}

@@ -18,14 +18,16 @@ use Rattle.state.specs.Session.{freshSession}
 use Rattle.state.specs.declared.kept.Session.{Session}
 use Rattle.state.proofs.Filled.{sheet-most}
 use Rattle.state.proofs.FormWords.{accepted-says}
+use Rattle.record.specs.Record.{recordLength, recordBytes}
+use Rattle.record.proofs.Records.{length-record}
 use Rattle.session.specs.Calls.{Told, told, openAnswer}
-use Rattle.session.specs.Run.{byteOk, recordLength, recordBytes, runAnswer, ran, runOut}
+use Rattle.session.specs.Run.{byteOk, runAnswer, ran, runOut}
 use Rattle.state.proofs.Copies.{length-range}
 use Rattle.layout.specs.Layout.{sessionBytes, sessionOf}
 use Rattle.host.specs.Calls.{proposalsFor, hostOpen, openBytes, onSession, bytesAfter}
 use Rattle.host.specs.Says.{Leaves, SamePast}
 use Rattle.layout.proofs.Layouts.{Full, length-full, full-session}
-use Rattle.host.proofs.Lengths.{full-fresh, full-obeyed, length-record}
+use Rattle.host.proofs.Lengths.{full-fresh, full-obeyed}
 
 -- ---- bytes that are written where the number is 0
 

@@ -3,14 +3,11 @@ use Prim.Native.Nat.{ℕ, _-_, _≤_}
 use mathlib.Core.Path.{_≡_, refl, _∙_}
 use mathlib.Core.List.{List, [], _∷_}
 use mathlib.Core.Bool.{Bool, true, false, _&&_, cond}
-use native.Mathlib.Omega.{arith}
 use lib.Dec.{ltb, eqb}
-use lib.ListN.{length, take, length-set}
-use lib.Seq.{length-take-le}
+use lib.ListN.{length, length-set}
 use Rattle.sheet.specs.Check.{within}
 use Rattle.sheet.specs.Rows.{slot}
 use Rattle.sheet.specs.Rules.{writes}
-use Rattle.builder.proofs.Written.{length-flat}
 use Rattle.state.specs.Session.{freshSession, layout, partyOf, cell}
 use Rattle.state.specs.WellFormed.{wellFormed}
 use Rattle.state.specs.declared.kept.Party.{Party}
@@ -19,7 +16,7 @@ use Rattle.state.proofs.Filled.{filled-length, fresh-length}
 use Rattle.session.specs.Step.{Place, announce, publish, write, readTop, readOwn, readPair, fetch, decide, done, placeOf, counted, partyAfter}
 use Rattle.session.specs.Step.{marksAfter, publishedAfter, acted, step, stoppedParty, stop}
 use Rattle.session.specs.Calls.{unlessKept}
-use Rattle.session.specs.Run.{partyBytes, recordLength, recordBytes, entry, obeyed}
+use Rattle.session.specs.Run.{entry, obeyed}
 use Rattle.session.proofs.Stamps.{length-stamped}
 use Rattle.session.proofs.Changes.{step-either}
 use Rattle.layout.proofs.Layouts.{Full}
@@ -107,11 +104,3 @@ full-fresh sheet proposals n short few most =
       publishedFull = refl;
       partiesFull = fresh-length n most;
     }
-
--- ---- the record
-
-pub length-record : (n : ℕ) (ps : List Party) → n ≤ length ps → length (recordBytes n ps) ≡ recordLength n
-length-record n ps h =
-    let bytes = length-flat partyBytes 7 (λ p. refl) (take n ps) in
-    let size = length-take-le n ps h in
-    omega arith

@@ -26,9 +26,10 @@ use Rattle.state.specs.declared.kept.Party.{Party}
 use Rattle.state.specs.declared.kept.Session.{Session}
 use Rattle.state.proofs.Joins.{within-words}
 use Rattle.state.proofs.FormWords.{well-formed-says}
+use Rattle.record.specs.Record.{recordLength}
 use Rattle.session.specs.Step.{isLive, stoppedParty, stop, placeActed}
 use Rattle.session.specs.Calls.{Told, openAnswer, unlessRefused, stepTold, stopTold, countOf, liveNumber, liveTold}
-use Rattle.session.specs.Run.{byteOk, recordLength, runAnswer}
+use Rattle.session.specs.Run.{byteOk, runAnswer}
 use Rattle.session.proofs.Refusals.{parties-few}
 use Rattle.host.specs.Word.{word}
 use Rattle.layout.specs.Layout.{sessionOf}

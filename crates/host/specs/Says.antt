@@ -7,8 +7,8 @@ use lib.ListN.{length, getD, drop}
 use Rattle.sheet.specs.Rows.{sheetLength}
 use Rattle.sheet.specs.Check.{Answer, checkAnswer}
 use Rattle.builder.specs.Build.{buildAnswer, outAfter}
+use Rattle.record.specs.Record.{recordLength}
 use Rattle.session.specs.Calls.{Told}
-use Rattle.session.specs.Run.{recordLength}
 use Rattle.host.specs.Word.{answerWord, toldWord}
 use Rattle.host.specs.Calls.{hostOpen, openBytes, hostStep, stepBytes, hostStop, stopBytes, hostLive, hostRun, runBytes}
 

@@ -7,7 +7,7 @@ use lib.Dec.{eqb}
 use lib.ListN.{length, getD, length-append}
 use Rattle.sheet.specs.Bytes.{num}
 use Rattle.sheet.proofs.Numbers.{num-below}
-use Rattle.session.specs.Run.{recordLength}
+use Rattle.record.specs.Record.{recordLength}
 use Rattle.lister.specs.Text.{dash, partiesWord, entriesWord, refusedWord, atWord, statusWord, decimal}
 use Rattle.lister.specs.Text.{countsLine, decisionWord, partyLine, recordLine, listing, refusedText}
 use Rattle.lister.proofs.Decimals.{length-decimal}

@@ -6,7 +6,8 @@ use lib.ListN.{length, replicate}
 use lib.Dec.{eqb}
 use Rattle.sheet.specs.Check.{Answer}
 use Rattle.builder.specs.Build.{builtSheet}
-use Rattle.session.specs.Run.{recordLength, runAnswer, runOut}
+use Rattle.record.specs.Record.{recordLength}
+use Rattle.session.specs.Run.{runAnswer, runOut}
 use Rattle.lister.specs.Text.{listing, refusedText}
 
 abbrev pub proposals : List ℕ

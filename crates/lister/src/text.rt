@@ -4,7 +4,7 @@ ghost use mathlib.Core.List.{[], _∷_, _++_};
 ghost use Prim.Native.Nat.{_+_, _*_, _≤_};
 ghost use lib.ListN.{length, getD, drop};
 ghost use Rattle.sheet.specs.Bytes.{num};
-ghost use Rattle.session.specs.Run.{recordLength};
+ghost use Rattle.record.specs.Record.{recordLength};
 ghost use Rattle.lister.specs.Text.{newline, space, statusWord, decimal, countsLine, decisionWord, partyLine};
 ghost use Rattle.lister.specs.Text.{recordLine, listing, refusedText, Put};
 

@@ -28,7 +28,6 @@ pub mod Given
 pub mod Schedules
 pub mod Obeying
 pub mod ObeyLoop
-pub mod Records
 pub mod RunAnswers
 pub mod RunCalls
 pub mod Tally

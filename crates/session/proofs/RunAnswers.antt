@@ -14,8 +14,9 @@ use Rattle.sheet.specs.declared.answer.Refusal.{Refusal}
 use Rattle.sheet.specs.declared.answer.Verdict.{Verdict}
 use Rattle.sheet.specs.declared.answer.Verdict.the-variants.{Refused}
 use Rattle.state.proofs.Verdicts.{refused-number}
+use Rattle.record.specs.Record.{recordLength, recordBytes}
 use Rattle.session.specs.Calls.{openAnswer}
-use Rattle.session.specs.Run.{byteOk, recordLength, recordBytes, runAnswer, ran, runOut}
+use Rattle.session.specs.Run.{byteOk, runAnswer, ran, runOut}
 
 module _ (sheet proposals schedule out : List ℕ) where
   abbrev bad : ℕ

@@ -1,15 +1,14 @@
--- The run: what a schedule does from a fresh session, the record, and the call's answer.
-use Prim.Native.Nat.{ℕ, _+_, _-_, _*_}
-use mathlib.Core.List.{List, [], _∷_, _++_, map}
+-- The run: what a schedule does from a fresh session, the call's answer, and the output afterwards.
+use Prim.Native.Nat.{ℕ, _+_, _-_}
+use mathlib.Core.List.{List, [], _∷_, _++_}
 use mathlib.Core.Bool.{Bool, _||_, cond}
-use lib.ListN.{length, getD, take, drop}
+use lib.ListN.{length, getD, drop}
 use lib.Dec.{ltb, eqb}
-use Rattle.sheet.specs.Lists.{flat, firstBad}
-use Rattle.sheet.specs.Bytes.{bytesOf}
+use Rattle.sheet.specs.Lists.{firstBad}
 use Rattle.sheet.specs.Check.{Answer, answer, done, within}
 use Rattle.state.specs.Session.{freshSession}
-use Rattle.state.specs.declared.kept.Party.{Party}
 use Rattle.state.specs.declared.kept.Session.{Session}
+use Rattle.record.specs.Record.{recordLength, recordBytes}
 use Rattle.session.specs.Step.{step, stop}
 use Rattle.session.specs.Calls.{openAnswer}
 
@@ -26,23 +25,6 @@ entry s b = cond (ltb b 128) (step s b) (stop s (b - 128))
 abbrev pub obeyed : Session → List ℕ → Session
 obeyed s [] = s
 obeyed s (b ∷ bs) = obeyed (entry s b) bs
-
--- ---- the record
-
--- each party in 7 bytes: status (1), own steps (2), decision (4, zero unless decided)
-abbrev pub partyBytes : Party → List ℕ
-partyBytes p = p .status ∷ (bytesOf 2 (p .steps) ++ bytesOf 4 (p .decision))
-
-abbrev pub recordLength : ℕ → ℕ
-recordLength n = 4 + 7 * n
-
--- length (2), version 1 (1), N (1)
-abbrev pub recordHead : ℕ → List ℕ
-recordHead n = bytesOf 2 (recordLength n) ++ (1 ∷ n ∷ [])
-
--- then the parties
-abbrev pub recordBytes : ℕ → List Party → List ℕ
-recordBytes n parties = recordHead n ++ flat (map partyBytes (take n parties))
 
 -- ---- the call: sheet, 7, 8 (index of the first bad byte, counted from 0), 11
 

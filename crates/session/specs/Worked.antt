@@ -6,7 +6,8 @@ use lib.ListN.{take, replicate}
 use Rattle.sheet.specs.Bytes.{bytesOf}
 use Rattle.sheet.specs.Check.{answer, done}
 use Rattle.builder.specs.Build.{builtSheet, buildAnswer}
-use Rattle.session.specs.Run.{recordLength, recordHead, runAnswer, runOut}
+use Rattle.record.specs.Record.{recordLength, recordHead}
+use Rattle.session.specs.Run.{runAnswer, runOut}
 
 -- what a party ends with: status, own steps, decision
 pub record End : Type 0 where

@@ -1,13 +1,12 @@
-// The run of a whole schedule, and its record.
+// The run of a whole schedule.
 ghost use mathlib.Core.Path.{_≡_};
-ghost use mathlib.Core.List.{_++_};
 ghost use Prim.Native.Nat.{_≤_};
-ghost use lib.ListN.{length, getD, drop};
+ghost use lib.ListN.{length, getD};
 ghost use lib.Dec.{T};
 ghost use Rattle.sheet.specs.Lists.{all, firstBad};
 ghost use Rattle.sheet.specs.Words.{Rules6};
 ghost use Rattle.sheet.specs.Answers.{answerOf};
-ghost use Rattle.session.specs.Run.{byteOk, ran, partyBytes, recordLength, recordHead, recordBytes, runAnswer, runOut};
+ghost use Rattle.session.specs.Run.{byteOk, ran, runAnswer, runOut};
 use crate::act;
 use crate::opening;
 use crate::parts;
@@ -81,49 +80,6 @@ fn obey(sheet: &[u8], proposals: &[u32], schedule: &[u8], n: u8) -> [Party; 16]
     parties
 }
 
-// The record's first four bytes.
-fn put_head(o: &mut [u8], n: u8)
-    requires { ⌜ (n ≤ 16) × (4 ≤ length (now o)) ⌝ }
-    ensures { λ _. ⌜ now (o .exit) ≡ recordHead n ++ drop 4 (now (o .entry)) ⌝ }
-{
-    let len = 4 + 7 * (n as u16);
-    o[0] = (len / 256 % 256) as u8;
-    o[1] = (len % 256) as u8;
-    o[2] = 1;
-    o[3] = n;
-}
-
-// A party's seven bytes, at the start of what is lent.
-fn put_party(o: &mut [u8], p: Party)
-    requires { ⌜ 7 ≤ length (now o) ⌝ }
-    ensures { λ _. ⌜ now (o .exit) ≡ partyBytes p ++ drop 7 (now (o .entry)) ⌝ }
-{
-    let steps = p.steps;
-    let decision = p.decision;
-    o[0] = p.status;
-    o[1] = (steps / 256 % 256) as u8;
-    o[2] = (steps % 256) as u8;
-    o[3] = (decision / 16777216 % 256) as u8;
-    o[4] = (decision / 65536 % 256) as u8;
-    o[5] = (decision / 256 % 256) as u8;
-    o[6] = (decision % 256) as u8;
-}
-
-// The record of the first n parties; the bytes past it stay.
-fn put_record(out: &mut [u8], n: u8, parties: [Party; 16])
-    requires { ⌜ (n ≤ 16) × (recordLength n ≤ length (now out)) ⌝ }
-    ensures { λ _. ⌜ now (out .exit) ≡ recordBytes n parties ++ drop (recordLength n) (now (out .entry)) ⌝ }
-{
-    put_head(out, n);
-    let mut p: usize = 0;
-    while p < n as usize {
-        let at = 4 + 7 * p;
-        let party = parties[p];
-        put_party(&mut out[at..], party);
-        p += 1;
-    }
-}
-
 // Opens a session, obeys each byte in turn and writes the record; bytes past it keep their content, and a refusal changes nothing.
 pub fn run(sheet: &[u8], proposals: &[u32], schedule: &[u8], out: &mut [u8]) -> Verdict
     ensures { λ r. ⌜ answerOf r ≡ runAnswer (now (sheet .entry)) (now (proposals .entry)) (now (schedule .entry)) (length (now (out .entry))) ⌝ }
@@ -144,6 +100,6 @@ pub fn run(sheet: &[u8], proposals: &[u32], schedule: &[u8], out: &mut [u8]) -> 
         return Verdict::Refused(Refusal::Output);
     }
     let parties = obey(sheet, proposals, schedule, n);
-    put_record(out, n, parties);
+    record::put_record(out, n, parties);
     Verdict::Done
 }

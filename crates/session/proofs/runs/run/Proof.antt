@@ -19,8 +19,10 @@ use Rattle.sheet.proofs.FirstBad.{first-none, none-first}
 use Rattle.sheet.proofs.Says.{check-says}
 use Rattle.state.specs.declared.kept.Party.{Party}
 use Rattle.state.proofs.Verdicts.{refused-number}
+use Rattle.record.specs.Record.{recordBytes, recordLength}
+use Rattle.record.proofs.Records.{recorded}
 use Rattle.session.specs.Calls.{openAnswer}
-use Rattle.session.specs.Run.{byteOk, recordBytes, recordLength}
+use Rattle.session.specs.Run.{byteOk}
 use Rattle.session.proofs.Openings.{not-accepted, miscounted, opens}
 use Rattle.session.proofs.RunAnswers.{run-unopened, run-unscheduled, run-unfit, run-done, run-refused, out-written}
 use Rattle.session.proofs.runs.run.Statement.{statement}
@@ -117,9 +119,6 @@ returns-4 c =
 obey-requires : tie.Need-obey-requires
 obey-requires c κs = (accepted (c .before .before .before .before), refl, c .before .before .before .if1 .left, all-good (c .before))
 
-put-record-requires : tie.Need-put-record-requires
-put-record-requires c κs = (few (c .before .before .before .before .before .before), omega arith)
-
 returns-5 : tie.Need-returns-5
 returns-5 c =
     let past = c .before .before .before .before .before in
@@ -129,7 +128,7 @@ returns-5 c =
     run-done (a .sheet .now) (a .proposals .now) (a .schedule .now) (a .out .now) (opening (past .before .before .before)) (none-bad (past .before))
     (omega arith) in (
       e,
-      c .before .before .put-record .ensures
+      recorded n _ (a .out .now) _ (few (past .before .before .before .before)) (omega arith) (c .before .before .put-record .ensures)
           ∙ ap (λ (ps : List Party). recordBytes n ps ++ drop (recordLength n) (a .out .now)) (c .before .before .before .before .obey .ensures)
           ∙ out-written (a .sheet .now) (a .proposals .now) (a .schedule .now) (a .out .now) e,
     )
@@ -154,6 +153,6 @@ run-spec =
     (λ c. search needs)
     returns-4
     obey-requires
-    put-record-requires
+    (λ c κs. search needs)
     (λ c. search needs)
     returns-5)

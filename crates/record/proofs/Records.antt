@@ -2,16 +2,19 @@
 use Prim.Native.Nat.{ℕ, _+_, _-_, _*_, _≤_, _<_}
 use mathlib.Core.Path.{_≡_, refl, sym, ap, _∙_}
 use mathlib.Core.List.{List, _++_, map, append-assoc}
+use mathlib.Core.Bool.{_&&_, cond}
 use native.Mathlib.Numerals.{add-one}
 use native.Mathlib.Omega.{arith}
+use lib.Dec.{leb}
 use lib.ListN.{length, getD, take, drop}
 use lib.Seq.{drop-drop, drop-append-add, length-take-le}
+use borrow.Author.Tests.{le-leb}
 use borrow.Rule.Slice.PartMut.{putMid}
 use Rattle.sheet.specs.Lists.{flat}
 use Rattle.builder.proofs.Parts.{written-behind}
 use Rattle.builder.proofs.Written.{flat-taken, length-flat}
 use Rattle.state.specs.declared.kept.Party.{Party}
-use Rattle.session.specs.Run.{partyBytes, recordLength, recordHead, recordBytes}
+use Rattle.record.specs.Record.{partyBytes, recordLength, recordHead, recordBytes}
 
 module _ (n : ℕ) (ps : List Party) where
   -- the head and the first k parties
@@ -59,3 +62,13 @@ module _ (n : ℕ) (ps : List Party) where
       eo
       ∙ ap (λ (z : List ℕ). written k ++ z) rest
       ∙ ap (λ (j : ℕ). (recordHead n ++ flat (map partyBytes (take j ps))) ++ drop (4 + 7 * j) o₀) l
+
+  -- where there are so many parties and the record fits, it is what the two tests choose
+  pub recorded : (o out : List ℕ) → n ≤ 16 → recordLength n ≤ length o
+      → out ≡ cond (leb n 16 && leb (recordLength n) (length o)) (recordBytes n ps ++ drop (recordLength n) o) o
+      → out ≡ recordBytes n ps ++ drop (recordLength n) o
+  recorded o out few room e = rw (le-leb n 16 few, le-leb (recordLength n) (length o) room) at e
+
+  pub length-record : n ≤ length ps → length (recordBytes n ps) ≡ recordLength n
+  unfolding written
+  length-record h = written-length n h

@@ -4,9 +4,9 @@ use native.Mathlib.Omega.{arith}
 use borrow.Author.Needs.{needs}
 use lib.ListN.{length-set}
 use lib.Seq.{sets-eq}
-use Rattle.session.specs.Run.{partyBytes}
-use Rattle.session.proofs.runs.put_party.Statement.{statement}
-use Rattle.session.proofs.runs.put_party.Tie as tie
+use Rattle.record.specs.Record.{partyBytes}
+use Rattle.record.proofs.put_party.Statement.{statement}
+use Rattle.record.proofs.put_party.Tie as tie
 
 slice-write-o-2 : tie.Need-slice-write-o-2
 slice-write-o-2 c = simp length-set (omega arith)

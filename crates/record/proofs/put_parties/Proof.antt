@@ -5,9 +5,9 @@ use mathlib.Core.List.{_++_}
 use native.Mathlib.Omega.{arith}
 use lib.ListN.{length, drop, length-take, length-drop}
 use borrow.Author.Needs.{needs}
-use Rattle.session.proofs.Records.{written, opening, turn, closing}
-use Rattle.session.proofs.runs.put_record.Statement.{statement}
-use Rattle.session.proofs.runs.put_record.Tie as tie
+use Rattle.record.proofs.Records.{written, opening, turn, closing}
+use Rattle.record.proofs.put_parties.Statement.{statement}
+use Rattle.record.proofs.put_parties.Tie as tie
 
 abbrev Inv-loop : tie.InvT-loop
 Inv-loop out₀ n parties p₀ out p =
@@ -49,8 +49,8 @@ returns c =
     let args = head .before .before .before .args in
     closing (args .n) (args .t3) (l .p) (args .out .now) (head .put-head .last .0) (l .out) (omega arith) (head .put-head .ensures) (l .inv .3)
 
-pub put-record-spec : {M : Type 1} → statement M
-put-record-spec =
+pub put-parties-spec : {M : Type 1} → statement M
+put-parties-spec =
     tie.close
     (tie.spec
     Inv-loop

@@ -1,0 +1,2 @@
+-- Laws that several proofs cite; each file says its argument in its first line.
+pub mod Records

@@ -1,0 +1,63 @@
+// The record of a run, written into bytes that are lent.
+ghost use mathlib.Core.Path.{_≡_};
+ghost use mathlib.Core.List.{_++_};
+ghost use mathlib.Core.Bool.{_&&_, cond};
+ghost use Prim.Native.Nat.{_≤_};
+ghost use lib.Dec.{leb};
+ghost use lib.ListN.{length, drop};
+ghost use Rattle.record.specs.Record.{partyBytes, recordLength, recordHead, recordBytes};
+use state::Party;
+
+// The record's first four bytes.
+fn put_head(o: &mut [u8], n: u8)
+    requires { ⌜ (n ≤ 16) × (4 ≤ length (now o)) ⌝ }
+    ensures { λ _. ⌜ now (o .exit) ≡ recordHead n ++ drop 4 (now (o .entry)) ⌝ }
+{
+    let len = 4 + 7 * (n as u16);
+    o[0] = (len / 256 % 256) as u8;
+    o[1] = (len % 256) as u8;
+    o[2] = 1;
+    o[3] = n;
+}
+
+// A party's seven bytes, at the start of what is lent.
+fn put_party(o: &mut [u8], p: Party)
+    requires { ⌜ 7 ≤ length (now o) ⌝ }
+    ensures { λ _. ⌜ now (o .exit) ≡ partyBytes p ++ drop 7 (now (o .entry)) ⌝ }
+{
+    let steps = p.steps;
+    let decision = p.decision;
+    o[0] = p.status;
+    o[1] = (steps / 256 % 256) as u8;
+    o[2] = (steps % 256) as u8;
+    o[3] = (decision / 16777216 % 256) as u8;
+    o[4] = (decision / 65536 % 256) as u8;
+    o[5] = (decision / 256 % 256) as u8;
+    o[6] = (decision % 256) as u8;
+}
+
+// The record of the first n parties; the bytes past it stay.
+fn put_parties(out: &mut [u8], n: u8, parties: [Party; 16])
+    requires { ⌜ (n ≤ 16) × (recordLength n ≤ length (now out)) ⌝ }
+    ensures { λ _. ⌜ now (out .exit) ≡ recordBytes n parties ++ drop (recordLength n) (now (out .entry)) ⌝ }
+{
+    put_head(out, n);
+    let mut p: usize = 0;
+    while p < n as usize {
+        let at = 4 + 7 * p;
+        let party = parties[p];
+        put_party(&mut out[at..], party);
+        p += 1;
+    }
+}
+
+// Writes the record of the first n parties, where n is at most 16 and it fits; the bytes past it stay, and else all stay.
+pub fn put_record(out: &mut [u8], n: u8, parties: [Party; 16])
+    ensures { λ _. ⌜ now (out .exit) ≡ cond (leb n 16 && leb (recordLength n) (length (now (out .entry))))
+        (recordBytes n parties ++ drop (recordLength n) (now (out .entry)))
+        (now (out .entry)) ⌝ }
+{
+    if n <= 16 && 4 + 7 * (n as usize) <= out.len() {
+        put_parties(out, n, parties);
+    }
+}
