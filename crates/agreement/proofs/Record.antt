@@ -15,10 +15,10 @@ use Rattle.sheet.proofs.Numbers.{num-drop, num-bytes}
 use Rattle.state.specs.Session.{noParty, partyOf}
 use Rattle.state.specs.declared.kept.Party.{Party}
 use Rattle.state.specs.declared.kept.Session.{Session}
+use Rattle.state.proofs.Openings.{opens}
 use Rattle.record.specs.Record.{partyBytes, recordHead, recordBytes, recordLength}
 use Rattle.session.specs.Run.{byteOk, runAnswer, ran, runOut}
 use Rattle.session.specs.Reach.{Reached}
-use Rattle.session.proofs.Openings.{opens}
 use Rattle.session.proofs.RunAnswers.{run-done, out-written}
 use Rattle.agreement.specs.Demand.{Opens, placeIn, statusIn, stepsIn, decisionIn, OfRecord, OfRun}
 use Rattle.agreement.proofs.Theorems.{rules, reached}
@@ -85,7 +85,7 @@ module _ (sheet proposals : List ℕ) (o : Opens sheet proposals) (words : (j : 
   R = reached sheet proposals o schedule good
 
   answered : done ≡ runAnswer sheet proposals schedule (length out)
-  answered = run-done sheet proposals schedule out (opens sheet proposals (o .accepted) (o .count) .1) (first-none (byteOk n) 1 schedule good) room
+  answered = run-done sheet proposals schedule out (opens sheet proposals (o .accepted) (o .count)) (first-none (byteOk n) 1 schedule good) room
 
   module _ (i : ℕ) (least : 1 ≤ i) (most : i ≤ n) where
     abbrev p : Party

@@ -10,10 +10,10 @@ use Rattle.session.specs.Run.{byteOk, ran}
 use Rattle.sheet.specs.Lists.{all}
 use Rattle.sheet.specs.Words.{Rules6}
 use Rattle.builder.specs.Build.{builtSheet}
+use Rattle.state.proofs.Openings.{opens}
 use Rattle.session.proofs.Agreement.{agreement}
 use Rattle.session.proofs.Enough.{enough}
 use Rattle.session.proofs.Obeying.{obeyed-reached}
-use Rattle.session.proofs.Openings.{opens}
 use Rattle.session.proofs.RunCalls.{run-calls, run-told}
 use Rattle.session.proofs.StepLimits.{reached-limit, reached-decides}
 use Rattle.session.proofs.Tally.{steps-acts}
@@ -48,7 +48,7 @@ module _ (sheet proposals : List ℕ) (o : Opens sheet proposals) (schedule : Li
   of-calls : OfCalls sheet proposals schedule
   of-calls =
       record {
-        opens = sym (opens sheet proposals (o .accepted) (o .count) .1);
+        opens = sym (opens sheet proposals (o .accepted) (o .count));
         told = run-told sheet proposals (rules o) (o .count) schedule good;
         demand = subst (Demand (getD sheet 5 0) proposals) (run-calls sheet proposals (rules o) (o .count) schedule good) (of-schedule .demand);
       }

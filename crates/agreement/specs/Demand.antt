@@ -10,9 +10,10 @@ use Rattle.sheet.specs.Check.{checkAnswer, done}
 use Rattle.builder.specs.Build.{builtSheet}
 use Rattle.builder.specs.Given.{Given}
 use Rattle.state.specs.Session.{freshSession, partyOf}
+use Rattle.state.specs.Opening.{openAnswer, opened}
 use Rattle.state.specs.declared.kept.Session.{Session}
 use Rattle.record.specs.Record.{recordLength}
-use Rattle.session.specs.Calls.{Told, opened, openAnswer}
+use Rattle.session.specs.Calls.{Told}
 use Rattle.session.specs.Run.{byteOk, runAnswer, ran, runOut}
 use Rattle.session.specs.Trace.{called, calledTold, acts, stepsBefore}
 use Rattle.session.specs.Reach.{Agreed, stepLimit, Reached}

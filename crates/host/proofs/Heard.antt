@@ -14,8 +14,8 @@ use Rattle.sheet.specs.Lists.{firstBad}
 use Rattle.sheet.specs.Check.{Answer, answer, done}
 use Rattle.sheet.proofs.Folds.{either, held, failed}
 use Rattle.sheet.proofs.FirstBad.{first-on, first-here}
+use Rattle.state.specs.Opening.{openAnswer}
 use Rattle.record.specs.Record.{recordLength}
-use Rattle.session.specs.Calls.{openAnswer}
 use Rattle.session.specs.Run.{byteOk, runAnswer}
 use Rattle.host.specs.Word.{answerWord}
 use Rattle.host.specs.Calls.{badAt}

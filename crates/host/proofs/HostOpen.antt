@@ -2,7 +2,7 @@
 use Prim.Native.Nat.{ℕ, _*_, _≤_}
 use mathlib.Core.Path.{_≡_, sym, ap, _∙_}
 use mathlib.Core.Logic.{_≢_, _↔_}
-use mathlib.Core.List.{List, []}
+use mathlib.Core.List.{List}
 use mathlib.Core.Bool.{cond}
 use borrow.Author.Tests.{eq-eqb, ne-eqb}
 use lib.Dec.{eqb}
@@ -13,9 +13,10 @@ use Rattle.sheet.specs.declared.answer.Refusal.{Refusal}
 use Rattle.sheet.specs.declared.answer.Verdict.{Verdict}
 use Rattle.sheet.specs.declared.answer.Verdict.the-variants.{Refused}
 use Rattle.state.specs.Session.{freshSession}
+use Rattle.state.specs.Opening.{openAnswer, opened}
 use Rattle.state.specs.declared.kept.Session.{Session}
 use Rattle.state.proofs.Verdicts.{refused-number}
-use Rattle.session.specs.Calls.{openAnswer, opened}
+use Rattle.state.proofs.Openings.{opened-fresh}
 use Rattle.host.specs.Word.{answerWord}
 use Rattle.layout.specs.Layout.{proposalsOf, sessionBytes}
 use Rattle.host.specs.Calls.{proposalsFor, hostOpen, openBytes}
@@ -58,13 +59,9 @@ module _ (sheet bytes session : List ℕ) (count : ℕ) (fits : (m : ℕ) → 1 
     unfolding bytesAt
     open-short n = answers-at (answer 11 0) (opens .2 _ ∙ rw (ne-eqb (length session) 3418 n))
 
-    -- what an opening answered by a gives
-    openedAt : Answer → Session
-    openedAt a = cond (eqb (a .number) 0) (freshSession sheet xs (getD sheet 5 0)) (freshSession [] [] 0)
-
     pub open-filled : length session ≡ 3418 → (s : Session) → s ≡ opened sheet xs → Answers 0 (sessionBytes s)
-    unfolding bytesAt openedAt
+    unfolding bytesAt
     open-filled l s is =
         let a = answers-at done (opens .2 _ ∙ rw (eq-eqb (length session) 3418 l)) in
-        let whole = is ∙ ap openedAt (sym e) ∙ ap (λ (ys : List ℕ). freshSession sheet ys (getD sheet 5 0)) (opens .1) in
+        let whole = is ∙ sym (opened-fresh sheet xs (sym e)) ∙ ap (λ (ys : List ℕ). freshSession sheet ys (getD sheet 5 0)) (opens .1) in
         (a .0, ap sessionBytes whole ∙ a .1)

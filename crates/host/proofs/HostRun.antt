@@ -9,7 +9,7 @@ use lib.Dec.{eqb}
 use lib.ListN.{length, getD}
 use Rattle.sheet.specs.Lists.{firstBad}
 use Rattle.sheet.specs.Check.{Answer}
-use Rattle.session.specs.Calls.{openAnswer}
+use Rattle.state.specs.Opening.{openAnswer}
 use Rattle.session.specs.Run.{byteOk, runAnswer, runOut}
 use Rattle.layout.specs.Layout.{proposalsOf}
 use Rattle.host.specs.Calls.{unlessUnopened, proposalsFor}

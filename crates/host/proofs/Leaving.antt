@@ -15,12 +15,13 @@ use Rattle.sheet.specs.Check.{Answer, answer, done, numbersOk, checkAnswer}
 use Rattle.builder.specs.Build.{given, builtSheet, buildAnswer, outAfter}
 use Rattle.builder.proofs.Theorems.{built-says}
 use Rattle.state.specs.Session.{freshSession}
+use Rattle.state.specs.Opening.{openAnswer}
 use Rattle.state.specs.declared.kept.Session.{Session}
 use Rattle.state.proofs.Filled.{sheet-most}
 use Rattle.state.proofs.FormWords.{accepted-says}
 use Rattle.record.specs.Record.{recordLength, recordBytes}
 use Rattle.record.proofs.Records.{length-record}
-use Rattle.session.specs.Calls.{Told, told, openAnswer}
+use Rattle.session.specs.Calls.{Told, told}
 use Rattle.session.specs.Run.{byteOk, runAnswer, ran, runOut}
 use Rattle.state.proofs.Copies.{length-range}
 use Rattle.layout.specs.Layout.{sessionBytes, sessionOf}

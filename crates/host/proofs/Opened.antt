@@ -14,8 +14,8 @@ use Rattle.sheet.specs.Bytes.{num}
 use Rattle.sheet.specs.Check.{Answer, done, headerOk, lengthOk, checkAnswer}
 use Rattle.sheet.proofs.Folds.{held, failed}
 use Rattle.sheet.proofs.Says.{rows, writers}
+use Rattle.state.specs.Opening.{openAnswer}
 use Rattle.state.proofs.FormWords.{accepted-says}
-use Rattle.session.specs.Calls.{openAnswer}
 use Rattle.state.proofs.Copies.{length-range}
 use Rattle.layout.specs.Layout.{proposalsOf}
 use Rattle.host.specs.Calls.{unlessUnopened, proposalsFor}

@@ -21,6 +21,7 @@ use Rattle.sheet.proofs.Slots.{length-slots, count-most}
 use Rattle.sheet.proofs.RuleWords.{header-says}
 use Rattle.sheet.proofs.Says.{rows, writers}
 use Rattle.state.specs.Session.{layout, noParty, partyOf}
+use Rattle.state.specs.Opening.{openAnswer}
 use Rattle.state.specs.WellFormed.{wellFormed}
 use Rattle.state.specs.declared.kept.Party.{Party}
 use Rattle.state.specs.declared.kept.Session.{Session}
@@ -28,7 +29,7 @@ use Rattle.state.proofs.Joins.{within-words}
 use Rattle.state.proofs.FormWords.{well-formed-says}
 use Rattle.record.specs.Record.{recordLength}
 use Rattle.session.specs.Step.{isLive, stoppedParty, stop, placeActed}
-use Rattle.session.specs.Calls.{Told, openAnswer, unlessRefused, stepTold, stopTold, countOf, liveNumber, liveTold}
+use Rattle.session.specs.Calls.{Told, unlessRefused, stepTold, stopTold, countOf, liveNumber, liveTold}
 use Rattle.session.specs.Run.{byteOk, runAnswer}
 use Rattle.session.proofs.Refusals.{parties-few}
 use Rattle.host.specs.Word.{word}

@@ -15,12 +15,12 @@ ghost use Rattle.host.specs.Word.{answerWord, toldWord};
 ghost use Rattle.host.specs.Layout.{sessionBytes};
 ghost use Rattle.host.specs.Calls.{hostOpen, openBytes, hostStep, stepBytes, hostStop, stopBytes, hostLive, lastIndex, heard, hostRun, runBytes};
 use session::calls;
-use session::opening;
 use session::reply::After;
 use session::reply::Reply;
 use session::runs;
 use sheet::Refusal;
 use sheet::Verdict;
+use state::opening;
 
 // Whether a sheet is accepted.
 #[no_mangle]

@@ -7,6 +7,7 @@ use lib.Seq.{take-at}
 use Rattle.sheet.specs.Bytes.{num}
 use Rattle.sheet.proofs.Ranges.{length-range}
 use Rattle.state.specs.Session.{filled}
+use Rattle.state.proofs.Copies.{length-range}
 use Rattle.layout.specs.Layout.{proposalsOf}
 
 module _ (bytes own : List ℕ) (count : ℕ) (is : own ≡ filled 16 (proposalsOf count bytes)) where

@@ -13,6 +13,7 @@ use Rattle.builder.proofs.Written.{length-flat}
 use Rattle.state.specs.Session.{noParty, ofParts}
 use Rattle.state.specs.declared.kept.Party.{Party}
 use Rattle.state.specs.declared.kept.Session.{Session}
+use Rattle.state.proofs.Copies.{range-at}
 use Rattle.layout.specs.Layout.{partyBytes, proposalsBytes, partiesBytes, sessionBytes}
 use Rattle.layout.specs.Layout.{partyFrom, proposalsOf, partiesFrom, sessionOf, Below, SizedParty, Sized}
 use Rattle.layout.proofs.Bytes.{below-drop, below-take, below-cons, below-append, below-flat, below-bytes, bytes-num}

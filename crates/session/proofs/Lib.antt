@@ -3,7 +3,6 @@ pub mod Stamps
 pub mod RowOf
 pub mod Replies
 pub mod Refusals
-pub mod Openings
 pub mod Changes
 pub mod Views
 pub mod Holder

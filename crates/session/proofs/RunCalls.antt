@@ -12,14 +12,15 @@ use Rattle.sheet.specs.Words.{Rules6}
 use Rattle.sheet.proofs.Folds.{and-left, and-right, and-both, held}
 use Rattle.sheet.proofs.Says.{past-6}
 use Rattle.state.specs.Session.{freshSession, partyOf}
+use Rattle.state.specs.Opening.{opened}
 use Rattle.state.specs.declared.kept.Session.{Session}
 use Rattle.state.proofs.FormWords.{well-formed-says}
+use Rattle.state.proofs.Openings.{opens, opened-fresh}
 use Rattle.session.specs.Step.{step, placeActed, stop}
-use Rattle.session.specs.Calls.{Told, opened, stepTold, stepped, stopTold, stopped}
+use Rattle.session.specs.Calls.{Told, stepTold, stepped, stopTold, stopped}
 use Rattle.session.specs.Run.{byteOk, entry, obeyed, ran}
 use Rattle.session.specs.Trace.{call, callTold, called, calledTold}
 use Rattle.session.proofs.Refusals.{parties-byte, parties-few, Past, answered}
-use Rattle.session.proofs.Openings.{opens}
 use Rattle.session.proofs.Reached.{Reached, here, reached-parties, reached-well-formed}
 use Rattle.session.proofs.Obeying.{Good, byte-good, entry-reached}
 
@@ -85,7 +86,7 @@ module _ (sheet proposals : List ℕ) (rules : Rules6 sheet) (count : length pro
       (told-done (entry-reached sheet proposals rules R b good) bs later))
 
   opens-fresh : freshSession sheet proposals n ≡ opened sheet proposals
-  opens-fresh = opens sheet proposals (past-6 sheet rules) count .0
+  opens-fresh = opened-fresh sheet proposals (sym (opens sheet proposals (past-6 sheet rules) count))
 
   module _ (schedule : List ℕ) (good : T (all (byteOk n) schedule)) where
     -- the run is the opening, and the calls that the bytes stand for

@@ -1,13 +1,11 @@
--- The calls: their refusals in their order, what they answer, and the session afterwards.
+-- The calls on a session: their refusals in their order, what they answer, and the session afterwards.
 use Prim.Native.Nat.{ℕ, suc}
 use mathlib.Core.List.{List, [], _∷_}
 use mathlib.Core.Bool.{Bool, _&&_, cond}
-use lib.ListN.{length, getD}
-use lib.Dec.{eqb}
 use Rattle.sheet.specs.Lists.{from}
-use Rattle.sheet.specs.Check.{Answer, answer, done, within, checkAnswer}
+use Rattle.sheet.specs.Check.{within}
 use Rattle.sheet.specs.Answers.{numberOf, positionOf}
-use Rattle.state.specs.Session.{freshSession, layout, partyOf}
+use Rattle.state.specs.Session.{layout, partyOf}
 use Rattle.state.specs.WellFormed.{wellFormed}
 use Rattle.state.specs.declared.kept.Session.{Session}
 use Rattle.session.specs.Step.{isLive, step, placeActed, stop}
@@ -27,17 +25,6 @@ told n v = record { number = n; value = v; position = 0 }
 abbrev pub toldOf : Reply → Told
 toldOf (Gave v) = told 0 v
 toldOf (Refused r) = record { number = numberOf r; value = 0; position = positionOf r }
-
--- ---- open: sheet, 7
-
-abbrev pub openAnswer : List ℕ → List ℕ → Answer
-openAnswer sheet proposals =
-    cond (eqb (checkAnswer sheet .number) 0) (cond (eqb (length proposals) (getD sheet 5 0)) done (answer 7 0)) (checkAnswer sheet)
-
--- a refused open gives a session of zeros
-abbrev pub opened : List ℕ → List ℕ → Session
-opened sheet proposals =
-    cond (eqb (openAnswer sheet proposals .number) 0) (freshSession sheet proposals (getD sheet 5 0)) (freshSession [] [] 0)
 
 -- ---- step and stop: 9, 10
 

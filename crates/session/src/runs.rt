@@ -8,11 +8,11 @@ ghost use Rattle.sheet.specs.Words.{Rules6};
 ghost use Rattle.sheet.specs.Answers.{answerOf};
 ghost use Rattle.session.specs.Run.{byteOk, ran, runAnswer, runOut};
 use crate::act;
-use crate::opening;
 use crate::parts;
 use sheet::Refusal;
 use sheet::Verdict;
 use state::Party;
+use state::opening;
 
 // Whether a schedule byte is a step or a stop of one of n parties, by its party alone: no branch on which of the two it is.
 fn byte_ok(n: u8, b: u8) -> bool
@@ -85,14 +85,11 @@ pub fn run(sheet: &[u8], proposals: &[u32], schedule: &[u8], out: &mut [u8]) -> 
     ensures { λ r. ⌜ answerOf r ≡ runAnswer (now (sheet .entry)) (now (proposals .entry)) (now (schedule .entry)) (length (now (out .entry))) ⌝ }
     ensures { λ _. ⌜ now (out .exit) ≡ runOut (now (sheet .entry)) (now (proposals .entry)) (now (schedule .entry)) (now (out .entry)) ⌝ }
 {
-    let verdict = sheet::check(sheet);
+    let verdict = opening::opens(sheet, proposals);
     if let Verdict::Refused(_) = verdict {
         return verdict;
     }
     let n = sheet[5];
-    if proposals.len() != n as usize {
-        return Verdict::Refused(Refusal::Proposals);
-    }
     if !schedule_ok(schedule, n) {
         return Verdict::Refused(Refusal::Schedule(first_bad_byte(schedule, n) - 1));
     }

@@ -1,10 +1,10 @@
 -- A fresh session is its lists filled with zeros: what was given stands in front, nothing behind it, and the length field finds the sheet again.
-use Prim.Native.Nat.{ℕ, zero, suc, _+_, _-_, _≤_, _<_}
+use Prim.Native.Nat.{ℕ, zero, suc, _+_, _-_, _≤_, _<_, min}
 use mathlib.Core.Path.{_≡_, refl, sym, ap, _∙_, subst}
 use mathlib.Core.List.{List, _++_, map}
 use native.Mathlib.Omega.{arith}
 use lib.ListN.{length, getD, take, replicate, length-append, length-replicate, List·getD-append}
-use lib.Seq.{take-append-le, take-append-seam, getD-append-add}
+use lib.Seq.{take-all, take-append-le, take-append-seam, getD-append-add}
 use Rattle.sheet.specs.Lists.{from}
 use Rattle.sheet.specs.Bytes.{num, bigFrom}
 use Rattle.sheet.specs.Words.{Rules6}
@@ -37,10 +37,17 @@ filled-front size xs j l = List·getD-append xs (replicate (size - length xs) 0)
 pub filled-past : (size : ℕ) (xs : List ℕ) (j : ℕ) → length xs ≤ j → getD (filled size xs) j 0 ≡ 0
 filled-past size xs j l = behind xs (size - length xs) j 0 l
 
+-- what has room is taken whole
+pub filled-taken : (size : ℕ) (xs : List ℕ) → length xs ≤ size → filled size (take size xs) ≡ filled size xs
+filled-taken size xs l = ap (filled size) (take-all size xs l)
+
 -- ---- the parties
 
 abbrev pub freshParties : ℕ → List Party
 freshParties n = map freshParty (from 1 n) ++ replicate (16 - n) noParty
+
+pub fresh-taken : (n : ℕ) → n ≤ 16 → map freshParty (from 1 (min n 16)) ++ replicate (16 - n) noParty ≡ freshParties n
+fresh-taken n l = ap (λ (k : ℕ). map freshParty (from 1 k) ++ replicate (16 - n) noParty) (let e : min n 16 ≡ n = omega arith in e)
 
 pub fresh-length : (n : ℕ) → n ≤ 16 → length (freshParties n) ≡ 16
 fresh-length n l =

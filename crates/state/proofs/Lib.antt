@@ -7,3 +7,4 @@ pub mod FormWords
 pub mod Filled
 pub mod Copies
 pub mod Verdicts
+pub mod Openings

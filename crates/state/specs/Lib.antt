@@ -1,4 +1,5 @@
--- What a session keeps and when it is well formed, computed and in words: read from the top.
+-- What a session keeps, how it is opened, and when it is well formed, computed and in words: read from the top.
 pub mod Session
+pub mod Opening
 pub mod WellFormed
 pub mod Words

@@ -1,5 +1,6 @@
-// What a session keeps, and when it is well formed.
+// What a session keeps, how it is opened, and when it is well formed.
 mod kept;
+pub mod opening;
 pub mod wellformed;
 
 pub use kept::Mark;

@@ -5,7 +5,7 @@ use mathlib.Core.List.{List}
 use borrow.Author.Needs.{needs}
 use lib.ListN.{take}
 use Rattle.sheet.specs.Answers.{answerOf}
-use Rattle.session.specs.Calls.{openAnswer, opened}
+use Rattle.state.specs.Opening.{openAnswer, opened}
 use Rattle.layout.specs.Layout.{proposalsOf}
 use Rattle.layout.proofs.Filling.{front, front-length}
 use Rattle.host.proofs.HostOpen.{open-refused, open-short, open-filled}

@@ -5,6 +5,7 @@ use mathlib.Core.Logic.{⊎-elim}
 use native.Mathlib.Omega.{arith}
 use borrow.Author.Needs.{needs}
 use lib.ListN.{length}
+use Rattle.state.proofs.Filled.{filled-taken, fresh-taken}
 use Rattle.session.proofs.ObeyLoop.{Going, going-first, going-byte, going-place, going-ready, going-act, going-stop, going-over, going-end}
 use Rattle.session.proofs.runs.obey.Statement.{statement}
 use Rattle.session.proofs.runs.obey.Tie as tie
@@ -16,25 +17,15 @@ Inv-loop sheet proposals schedule n own parties₀ marks₀ published₀ j₀ pa
 abbrev μ-loop : tie.MeasureT-loop
 μ-loop sheet proposals schedule n own parties₀ marks₀ published₀ j₀ parties marks published j = length schedule - j
 
-proposals-copy-requires : tie.Need-proposals-copy-requires Inv-loop μ-loop
-proposals-copy-requires c κs =
-    let pre = c .before .before .before .pre in
+loop-holds : tie.Need-loop-holds Inv-loop μ-loop
+loop-holds c =
+    let start = c .before .before .before .before .before in
+    let pre = start .pre in
     let few = pre .0 .before .before .before .header .partiesMost in
     let size = pre .1 in
     let count = pre .2 in
-    omega arith
-
-fresh-parties-requires : tie.Need-fresh-parties-requires Inv-loop μ-loop
-fresh-parties-requires c κs =
-    let pre = c .before .before .before .before .pre in
-    let few = pre .0 .before .before .before .header .partiesMost in
-    let size = pre .1 in
-    omega arith
-
-loop-holds : tie.Need-loop-holds Inv-loop μ-loop
-loop-holds c =
-    let pre = c .before .before .before .before .before .pre in
-    going-first _ _ (pre .0) (pre .1) (pre .2) (pre .3) (c .before .proposals-copy .ensures) (c .fresh-parties .ensures)
+    going-first _ _ (pre .0) (pre .1) (pre .2) (pre .3) (c .before .proposals-copy .ensures ∙ filled-taken 16 (start .args .proposals .now) (omega arith))
+    (c .fresh-parties .ensures ∙ fresh-taken (start .args .n) (omega arith))
 
 sub-at : tie.Need-sub-at Inv-loop μ-loop
 sub-at c = going-byte (c .before .before .loop .inv) (c .before .loop-test .taken) .least
@@ -92,8 +83,8 @@ obey-spec =
     (tie.spec
     Inv-loop
     μ-loop
-    proposals-copy-requires
-    fresh-parties-requires
+    (λ c κs. search needs)
+    (λ c κs. search needs)
     loop-holds
     (λ c. search needs)
     (λ c. search needs)

@@ -7,23 +7,21 @@ use native.Mathlib.Omega.{arith}
 use borrow.Author.Needs.{needs}
 use borrow.Author.Tests.{not-true, not-false}
 use lib.Dec.{T}
-use lib.ListN.{getD, drop}
-use Rattle.sheet.specs.Check.{answer, done, checkAnswer}
+use lib.ListN.{length, getD, drop}
+use Rattle.sheet.specs.Check.{answer, done}
 use Rattle.sheet.specs.Lists.{all, firstBad}
 use Rattle.sheet.specs.Answers.{answerOf}
 use Rattle.sheet.specs.Words.{Rules6}
-use Rattle.sheet.specs.declared.answer.Refusal.the-variants.{Proposals, Schedule, Output}
+use Rattle.sheet.specs.declared.answer.Refusal.the-variants.{Schedule, Output}
 use Rattle.sheet.specs.declared.answer.Verdict.the-variants.{Refused}
 use Rattle.sheet.proofs.Folds.{held, failed}
 use Rattle.sheet.proofs.FirstBad.{first-none, none-first}
-use Rattle.sheet.proofs.Says.{check-says}
+use Rattle.state.specs.Opening.{openAnswer}
 use Rattle.state.specs.declared.kept.Party.{Party}
-use Rattle.state.proofs.Verdicts.{refused-number}
+use Rattle.state.proofs.Openings.{opens-says}
 use Rattle.record.specs.Record.{recordBytes, recordLength}
 use Rattle.record.proofs.Records.{recorded}
-use Rattle.session.specs.Calls.{openAnswer}
 use Rattle.session.specs.Run.{byteOk}
-use Rattle.session.proofs.Openings.{not-accepted, miscounted, opens}
 use Rattle.session.proofs.RunAnswers.{run-unopened, run-unscheduled, run-unfit, run-done, run-refused, out-written}
 use Rattle.session.proofs.runs.run.Statement.{statement}
 use Rattle.session.proofs.runs.run.Tie as tie
@@ -34,101 +32,92 @@ use Rattle.session.proofs.runs.run.Tie as tie
 abbrev entry : tie.After-shared-slice-known4 → tie.Start
 entry c = c .before .before .before .before .before .before .before .before
 
-checked : (c : tie.After-shared-slice-known4) → checkAnswer (entry c .args .sheet .now) ≡ done
-checked c = sym (c .before .before .before .check .ensures) ∙ ap answerOf (c .before .enum-told2 .given .1)
+opening : (c : tie.After-shared-slice-known4) → done ≡ openAnswer (entry c .args .sheet .now) (entry c .args .proposals .now)
+opening c = sym (ap answerOf (c .before .enum-told2 .given .1)) ∙ c .before .before .before .opens .ensures
 
-accepted : (c : tie.After-shared-slice-known4) → Rules6 (entry c .args .sheet .now)
-accepted c = check-says (entry c .args .sheet .now) .accepted .0 (checked c)
+says : (c : tie.After-shared-slice-known4) → Rules6 (entry c .args .sheet .now) × (length (entry c .args .proposals .now) ≡ getD (entry c .args .sheet .now) 5 0)
+says c = opens-says (entry c .args .sheet .now) (entry c .args .proposals .now) (sym (opening c))
 
 few : (c : tie.After-shared-slice-known4) → getD (entry c .args .sheet .now) 5 0 ≤ 16
-few c = accepted c .before .before .before .header .partiesMost
-
-opening : (c : tie.Else1) → done ≡ openAnswer (entry (c .before) .args .sheet .now) (entry (c .before) .args .proposals .now)
-opening c = opens (entry (c .before) .args .sheet .now) (entry (c .before) .args .proposals .now) (checked (c .before)) (c .if1 .left) .1
+few c = says c .0 .before .before .before .header .partiesMost
 
 -- the first bad byte, as the definition has it
 abbrev first : tie.After-shared-slice-known4 → ℕ
 first c = firstBad (byteOk (getD (entry c .args .sheet .now) 5 0)) 1 (entry c .args .schedule .now)
 
-some-bad : (c : tie.Then2) → first (c .before .before .before) ≢ 0
+some-bad : (c : tie.Then1) → first (c .before .before) ≢ 0
 some-bad c e =
-    let a = entry (c .before .before .before) .args in
-    failed _ (sym (c .before .schedule-ok .ensures) ∙ not-true _ (c .if2 .taken))
+    let a = entry (c .before .before) .args in
+    failed _ (sym (c .before .schedule-ok .ensures) ∙ not-true _ (c .if1 .taken))
     (none-first (byteOk (getD (a .sheet .now) 5 0)) 1 (a .schedule .now) (omega arith) e)
 
-all-good : (c : tie.Else2)
-    → T (all (byteOk (getD (entry (c .before .before .before) .args .sheet .now) 5 0)) (entry (c .before .before .before) .args .schedule .now))
-all-good c = held _ (sym (c .before .schedule-ok .ensures) ∙ not-false _ (c .if2 .left))
+all-good : (c : tie.Else1) → T (all (byteOk (getD (entry (c .before .before) .args .sheet .now) 5 0)) (entry (c .before .before) .args .schedule .now))
+all-good c = held _ (sym (c .before .schedule-ok .ensures) ∙ not-false _ (c .if1 .left))
 
-none-bad : (c : tie.Else2) → first (c .before .before .before) ≡ 0
-none-bad c = first-none _ 1 (entry (c .before .before .before) .args .schedule .now) (all-good c)
+none-bad : (c : tie.Else1) → first (c .before .before) ≡ 0
+none-bad c = first-none _ 1 (entry (c .before .before) .args .schedule .now) (all-good c)
 
 -- ---- the needs
 
 returns : tie.Need-returns
 returns c =
     let a = c .before .before .before .before .before .before .before .args in
-    let v = c .before .before .check .result in
-    let e = c .before .before .check .ensures in
+    let v = c .before .before .opens .result in
     let r = c .enum-told .given .0 .0 in
     let o = c .enum-told .given .1 in
-    let unopened = e ∙ not-accepted (a .sheet .now) (a .proposals .now) (refused-number (checkAnswer (a .sheet .now)) v r e o) .1 in
     run-refused (a .sheet .now) (a .proposals .now) (a .schedule .now) (a .out .now) v r o
-    (run-unopened (a .sheet .now) (a .proposals .now) (a .schedule .now) (a .out .now) v r o unopened)
+    (run-unopened (a .sheet .now) (a .proposals .now) (a .schedule .now) (a .out .now) v r o (c .before .before .opens .ensures))
 
 shared-slice-read-n : tie.Need-shared-slice-read-n
-shared-slice-read-n c = let whole = accepted c .before .before .before .before .before .whole in omega arith
+shared-slice-read-n c = let whole = says c .0 .before .before .before .before .before .whole in omega arith
 
-cast-if1 : tie.Need-cast-if1
-cast-if1 c = let most = few c in omega arith
+schedule-ok-requires : tie.Need-schedule-ok-requires
+schedule-ok-requires c κs = few c
+
+first-bad-byte-requires : tie.Need-first-bad-byte-requires
+first-bad-byte-requires c κs = few (c .before .before)
+
+sub-t13 : tie.Need-sub-t13
+sub-t13 c = let some = some-bad (c .before) in let e = c .first-bad-byte .ensures in omega arith
 
 returns-2 : tie.Need-returns-2
 returns-2 c =
-    let a = entry (c .before) .args in
-    let unopened = miscounted (a .sheet .now) (a .proposals .now) (checked (c .before)) (c .if1 .taken) .1 in
-    run-refused (a .sheet .now) (a .proposals .now) (a .schedule .now) (a .out .now) (Refused Proposals) Proposals refl
-    (run-unopened (a .sheet .now) (a .proposals .now) (a .schedule .now) (a .out .now) (Refused Proposals) Proposals refl unopened)
+    let past = c .before .before .before in
+    let a = entry past .args in
+    let r = Schedule (c .first-bad-byte .result - 1) in
+    let e =
+    ap (λ (k : ℕ). answer 8 (k - 1)) (c .first-bad-byte .ensures)
+    ∙ run-unscheduled (a .sheet .now) (a .proposals .now) (a .schedule .now) (a .out .now) (opening past) (some-bad (c .before)) in
+    run-refused (a .sheet .now) (a .proposals .now) (a .schedule .now) (a .out .now) (Refused r) r refl e
 
-schedule-ok-requires : tie.Need-schedule-ok-requires
-schedule-ok-requires c κs = few (c .before)
+cast-if2 : tie.Need-cast-if2
+cast-if2 c = let most = few (c .before .before) in omega arith
 
-first-bad-byte-requires : tie.Need-first-bad-byte-requires
-first-bad-byte-requires c κs = few (c .before .before .before)
+mul-if2 : tie.Need-mul-if2
+mul-if2 c = let most = few (c .before .before) in omega arith
 
-sub-t16 : tie.Need-sub-t16
-sub-t16 c = let some = some-bad (c .before) in let e = c .first-bad-byte .ensures in omega arith
+add-if2 : tie.Need-add-if2
+add-if2 c = let most = few (c .before .before) in omega arith
 
 returns-3 : tie.Need-returns-3
 returns-3 c =
-    let a = entry (c .before .before .before .before) .args in
-    let r = Schedule (c .first-bad-byte .result - 1) in
-    let o = opening (c .before .before .before) in
-    let e =
-    ap (λ (k : ℕ). answer 8 (k - 1)) (c .first-bad-byte .ensures)
-    ∙ run-unscheduled (a .sheet .now) (a .proposals .now) (a .schedule .now) (a .out .now) o (some-bad (c .before)) in
-    run-refused (a .sheet .now) (a .proposals .now) (a .schedule .now) (a .out .now) (Refused r) r refl e
-
-returns-4 : tie.Need-returns-4
-returns-4 c =
-    let a = entry (c .before .before .before .before) .args in
-    let e =
-    run-unfit (a .sheet .now) (a .proposals .now) (a .schedule .now) (a .out .now) (opening (c .before .before .before)) (none-bad (c .before))
-    (omega arith) in
+    let past = c .before .before .before in
+    let a = entry past .args in
+    let e = run-unfit (a .sheet .now) (a .proposals .now) (a .schedule .now) (a .out .now) (opening past) (none-bad (c .before)) (omega arith) in
     run-refused (a .sheet .now) (a .proposals .now) (a .schedule .now) (a .out .now) (Refused Output) Output refl e
 
 obey-requires : tie.Need-obey-requires
-obey-requires c κs = (accepted (c .before .before .before .before), refl, c .before .before .before .if1 .left, all-good (c .before))
+obey-requires c κs = let (rules, each) = says (c .before .before .before) in (rules, refl, each, all-good (c .before))
 
-returns-5 : tie.Need-returns-5
-returns-5 c =
-    let past = c .before .before .before .before .before in
-    let a = entry (past .before .before .before .before) .args in
+returns-4 : tie.Need-returns-4
+returns-4 c =
+    let fits = c .before .before .before .before .before in
+    let past = fits .before .before .before in
+    let a = entry past .args in
     let n = getD (a .sheet .now) 5 0 in
-    let e =
-    run-done (a .sheet .now) (a .proposals .now) (a .schedule .now) (a .out .now) (opening (past .before .before .before)) (none-bad (past .before))
-    (omega arith) in (
+    let e = run-done (a .sheet .now) (a .proposals .now) (a .schedule .now) (a .out .now) (opening past) (none-bad (fits .before)) (omega arith) in (
       e,
-      recorded n _ (a .out .now) _ (few (past .before .before .before .before)) (omega arith) (c .before .before .put-record .ensures)
+      recorded n _ (a .out .now) _ (few past) (omega arith) (c .before .before .put-record .ensures)
           ∙ ap (λ (ps : List Party). recordBytes n ps ++ drop (recordLength n) (a .out .now)) (c .before .before .before .before .obey .ensures)
           ∙ out-written (a .sheet .now) (a .proposals .now) (a .schedule .now) (a .out .now) e,
     )
@@ -142,17 +131,15 @@ run-spec =
     returns
     (λ c. search needs)
     shared-slice-read-n
-    cast-if1
-    returns-2
     schedule-ok-requires
     first-bad-byte-requires
-    sub-t16
+    sub-t13
+    returns-2
+    cast-if2
+    mul-if2
+    add-if2
     returns-3
-    (λ c. search needs)
-    (λ c. search needs)
-    (λ c. search needs)
-    returns-4
     obey-requires
     (λ c κs. search needs)
     (λ c. search needs)
-    returns-5)
+    returns-4)

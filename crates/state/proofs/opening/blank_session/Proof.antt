@@ -1,8 +1,8 @@
 -- Each part is filled with zeros, and a party with zeros is a fresh party 0.
 use borrow.Author.Needs.{needs}
 use lib.ListN.{replicate}
-use Rattle.session.proofs.opening.blank_session.Statement.{statement}
-use Rattle.session.proofs.opening.blank_session.Tie as tie
+use Rattle.state.proofs.opening.blank_session.Statement.{statement}
+use Rattle.state.proofs.opening.blank_session.Tie as tie
 
 returns : tie.Need-returns
 returns c = λ i.

@@ -4,9 +4,9 @@ use mathlib.Core.Path.{refl}
 use borrow.Author.Needs.{needs}
 use native.Mathlib.Omega.{arith}
 use lib.ListN.{length}
 use Rattle.state.proofs.Copies.{Front, front-first, front-on, front-end}
-use Rattle.session.proofs.opening.sheet_copy.Statement.{statement}
-use Rattle.session.proofs.opening.sheet_copy.Tie as tie
+use Rattle.state.proofs.opening.sheet_copy.Statement.{statement}
+use Rattle.state.proofs.opening.sheet_copy.Tie as tie
 
 abbrev Inv-loop : tie.InvT-loop
 Inv-loop sheet copy₀ j₀ copy j = (j ≤ length sheet) × Front 1898 0 sheet copy j

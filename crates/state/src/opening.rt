@@ -1,16 +1,16 @@
-// A session filled whole at opening.
+// Whether a session is opened, and a session filled whole at opening.
 ghost use mathlib.Core.Path.{_≡_};
 ghost use mathlib.Core.List.{_++_, map};
-ghost use Prim.Native.Nat.{_-_, _≤_};
-ghost use lib.ListN.{length, replicate};
+ghost use Prim.Native.Nat.{_-_, _≤_, min};
+ghost use lib.ListN.{length, take, replicate};
 ghost use Rattle.sheet.specs.Lists.{from};
 ghost use Rattle.sheet.specs.Answers.{answerOf};
 ghost use Rattle.state.specs.Session.{freshParty, noParty, filled, freshSession};
-ghost use Rattle.session.specs.Calls.{openAnswer, opened};
+ghost use Rattle.state.specs.Opening.{openAnswer, opened};
+use crate::kept::Party;
+use crate::kept::Session;
 use sheet::Refusal;
 use sheet::Verdict;
-use state::Party;
-use state::Session;
 
 // A session that was opened, or why it was not.
 pub struct Opened {
@@ -31,30 +31,38 @@ fn sheet_copy(sheet: &[u8]) -> [u8; 1898]
     copy
 }
 
-pub(crate) fn proposals_copy(proposals: &[u32]) -> [u32; 16]
-    requires { ⌜ length (now proposals) ≤ 16 ⌝ }
-    ensures { λ r. ⌜ r ≡ filled 16 (now (proposals .entry)) ⌝ }
+// As many as a session has entries for.
+fn at_most_16(count: usize) -> usize
+    ensures { λ r. ⌜ r ≡ min count 16 ⌝ }
 {
+    if count < 16 { count } else { 16 }
+}
+
+// The first 16 proposals; where there are fewer, zeros behind them.
+pub fn proposals_copy(proposals: &[u32]) -> [u32; 16]
+    ensures { λ r. ⌜ r ≡ filled 16 (take 16 (now (proposals .entry))) ⌝ }
+{
+    let count = at_most_16(proposals.len());
     let mut copy = [0u32; 16];
     let mut j = 0;
-    while j < proposals.len() {
+    while j < count {
         copy[j] = proposals[j];
         j += 1;
     }
     copy
 }
 
-pub(crate) fn fresh_parties(n: u8) -> [Party; 16]
-    requires { ⌜ n ≤ 16 ⌝ }
-    ensures { λ r. ⌜ r ≡ map freshParty (from 1 n) ++ replicate (16 - n) noParty ⌝ }
+// Fresh parties 1 to n, at most 16, and unused entries behind them.
+pub fn fresh_parties(n: u8) -> [Party; 16]
+    ensures { λ r. ⌜ r ≡ map freshParty (from 1 (min n 16)) ++ replicate (16 - n) noParty ⌝ }
 {
+    let count = at_most_16(n as usize);
     let none = Party::fresh(0);
     let mut parties = [none; 16];
-    let mut i: u8 = 1;
-    while i <= n {
-        let at = i as usize - 1;
-        parties[at] = Party::fresh(i);
-        i += 1;
+    let mut at = 0;
+    while at < count {
+        parties[at] = Party::fresh(at as u8 + 1);
+        at += 1;
     }
     parties
 }
@@ -89,22 +97,29 @@ fn blank_session() -> Session
     }
 }
 
+// Whether a session is opened: on an accepted sheet, with a proposal for each party.
+pub fn opens(sheet: &[u8], proposals: &[u32]) -> Verdict
+    ensures { λ r. ⌜ answerOf r ≡ openAnswer (now (sheet .entry)) (now (proposals .entry)) ⌝ }
+{
+    let verdict = sheet::check(sheet);
+    if let Verdict::Refused(_) = verdict {
+        return verdict;
+    }
+    if proposals.len() != sheet[5] as usize {
+        return Verdict::Refused(Refusal::Proposals);
+    }
+    Verdict::Done
+}
+
 // Opens a session on an accepted sheet with a proposal for each party.
 pub fn open_value(sheet: &[u8], proposals: &[u32]) -> Opened
     ensures { λ r. ⌜ (r .session ≡ opened (now (sheet .entry)) (now (proposals .entry))) × (answerOf (r .verdict) ≡ openAnswer (now (sheet .entry)) (now (proposals .entry))) ⌝ }
 {
-    let verdict = sheet::check(sheet);
+    let verdict = opens(sheet, proposals);
     if let Verdict::Refused(_) = verdict {
         let session = blank_session();
         return Opened { session, verdict };
     }
-    let n = sheet[5];
-    if proposals.len() != n as usize {
-        let session = blank_session();
-        let verdict = Verdict::Refused(Refusal::Proposals);
-        return Opened { session, verdict };
-    }
-    let session = fresh_session(sheet, proposals, n);
-    let verdict = Verdict::Done;
+    let session = fresh_session(sheet, proposals, sheet[5]);
     Opened { session, verdict }
 }
