@@ -19,6 +19,7 @@ use Rattle.state.specs.Opening.{openAnswer}
 use Rattle.state.specs.declared.kept.Session.{Session}
 use Rattle.state.proofs.Filled.{sheet-most}
 use Rattle.state.proofs.FormWords.{accepted-says}
+use Rattle.state.proofs.Openings.{opens-when}
 use Rattle.record.specs.Record.{recordLength, recordBytes}
 use Rattle.record.proofs.Records.{length-record}
 use Rattle.session.specs.Calls.{Told, told}
@@ -97,12 +98,10 @@ session-leaves bytes tell after keeps =
 
 -- ---- open and run
 
--- a refusal, then 7, then the rest
-opens-when : (a b : Bool) (refusal rest : Answer) → eqb (refusal .number) 0 ≡ a → cond a (cond b rest (answer 7 0)) refusal .number ≡ 0
-    → (T a) × (rest .number ≡ 0)
-opens-when true true refusal rest e z = (tt, z)
-opens-when true false refusal rest e z = absurd (omega arith)
-opens-when false b refusal rest e z = absurd (eqb-false (refusal .number) 0 e z)
+-- 11 unless the slice fits
+pub fits-when : (b : Bool) → cond b done (answer 11 0) .number ≡ 0 → b ≡ true
+fits-when true e = refl
+fits-when false e = absurd (omega arith)
 
 -- an opening, then 8, then 11
 ran-when : (a b c : Bool) (opening : Answer) (k : ℕ) → eqb (opening .number) 0 ≡ a
@@ -137,12 +136,8 @@ module _ (sheet proposals : List ℕ) where
   pub open-leaves : (session : List ℕ) → Leaves (hostOpen sheet proposals (length session) .number) session (openBytes sheet proposals session)
   open-leaves session =
       leaves (hostOpen sheet proposals (length session) .number) (sessionBytes fresh) session (λ e.
-      let (t, z) = opens-when ok (eqb (length proposals) (4 * n)) (checkAnswer sheet) (cond (eqb (length session) 3418) done (answer 11 0)) refl e in
-      length-full fresh (full t) ∙ sym (eqb-true (length session) 3418 (by (eqb (length session) 3418) z)))
-    where
-      by : (b : Bool) → cond b done (answer 11 0) .number ≡ 0 → b ≡ true
-      by true e = refl
-      by false e = absurd (omega arith)
+      let (t, _, z) = opens-when ok (eqb (length proposals) (4 * n)) (checkAnswer sheet) (cond (eqb (length session) 3418) done (answer 11 0)) refl e in
+      length-full fresh (full t) ∙ sym (eqb-true (length session) 3418 (fits-when (eqb (length session) 3418) z)))
 
   module _ (schedule out : List ℕ) where
     abbrev written : List ℕ

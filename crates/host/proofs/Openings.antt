@@ -2,10 +2,10 @@
 use Prim.Native.Nat.{ℕ, _+_, _*_, _^_, _<_}
 use mathlib.Core.Path.{_≡_, refl, sym, ap, _∙_, subst⁻¹}
 use mathlib.Core.List.{List, _∷_, _++_, map}
-use mathlib.Core.Bool.{Bool, true, false, cond}
+use mathlib.Core.Bool.{cond}
 use mathlib.Core.Logic.{⊎-elim}
 use native.Mathlib.Omega.{arith}
-use borrow.Author.Tests.{eq-eqb, eqb-true, eqb-false}
+use borrow.Author.Tests.{eq-eqb, eqb-true}
 use lib.Dec.{eqb}
 use lib.ListN.{length, getD, List·getD-eq-default}
 use Rattle.sheet.specs.Lists.{flat}
@@ -16,7 +16,7 @@ use Rattle.sheet.specs.declared.rows.Row.{Row}
 use Rattle.sheet.specs.declared.rows.Slot.{Slot}
 use Rattle.builder.specs.Build.{rowBytes, headerBytes, builtRow, builtUnits, builtSheet}
 use Rattle.builder.specs.Given.{Given}
-use Rattle.sheet.proofs.Folds.{lt-or-le, held}
+use Rattle.sheet.proofs.Folds.{lt-or-le}
 use Rattle.sheet.proofs.Numbers.{num-below}
 use Rattle.sheet.proofs.Says.{past-6}
 use Rattle.builder.proofs.Givens.{given-ranges}
@@ -24,10 +24,12 @@ use Rattle.builder.proofs.Theorems.{built-says}
 use Rattle.state.specs.Session.{freshSession}
 use Rattle.state.proofs.FormWords.{accepted-says}
 use Rattle.state.proofs.Copies.{length-range, range-at}
+use Rattle.state.proofs.Openings.{opens-when}
 use Rattle.agreement.specs.Demand.{Opens}
 use Rattle.layout.specs.Layout.{sessionBytes, Below}
 use Rattle.host.specs.Calls.{proposalsFor, hostOpen, openBytes}
 use Rattle.layout.proofs.Bytes.{below-cons, below-append, below-flat, below-bytes}
+use Rattle.host.proofs.Leaving.{fits-when}
 
 -- ---- the tests
 
@@ -37,19 +39,16 @@ record Passed (sheet proposals : List ℕ) (len : ℕ) : Type 0 where
   size : len ≡ 3418
 
 passed : (sheet proposals : List ℕ) (len : ℕ) → hostOpen sheet proposals len ≡ done → Passed sheet proposals len
-passed sheet proposals len = by (eqb (checkAnswer sheet .number) 0) (eqb (length proposals) (4 * getD sheet 5 0)) (eqb len 3418) refl refl refl
-  where
-    by : (a b c : Bool) → eqb (checkAnswer sheet .number) 0 ≡ a → eqb (length proposals) (4 * getD sheet 5 0) ≡ b → eqb len 3418 ≡ c
-        → cond a (cond b (cond c done (answer 11 0)) (answer 7 0)) (checkAnswer sheet) ≡ done → Passed sheet proposals len
-    by true true true ea eb ec e =
-        record {
-          accepted = past-6 sheet (accepted-says sheet .0 (held (eqb (checkAnswer sheet .number) 0) ea));
-          count = eqb-true (length proposals) (4 * getD sheet 5 0) eb;
-          size = eqb-true len 3418 ec;
-        }
-    by true true false ea eb ec e = let n = ap (λ (x : Answer). x .number) e in absurd (omega arith)
-    by true false c ea eb ec e = let n = ap (λ (x : Answer). x .number) e in absurd (omega arith)
-    by false b c ea eb ec e = absurd (eqb-false (checkAnswer sheet .number) 0 ea (ap (λ (x : Answer). x .number) e))
+passed sheet proposals len e =
+    let rest = cond (eqb len 3418) done (answer 11 0) in
+    let (t, counted, z) =
+    opens-when (eqb (checkAnswer sheet .number) 0) (eqb (length proposals) (4 * getD sheet 5 0)) (checkAnswer sheet) rest refl
+    (ap (λ (x : Answer). x .number) e) in
+    record {
+      accepted = past-6 sheet (accepted-says sheet .0 t);
+      count = eqb-true (length proposals) (4 * getD sheet 5 0) counted;
+      size = eqb-true len 3418 (fits-when (eqb len 3418) z);
+    }
 
 passes : (sheet proposals : List ℕ) (len : ℕ) → Passed sheet proposals len → hostOpen sheet proposals len ≡ done
 passes sheet proposals len p =

@@ -6,11 +6,10 @@ use mathlib.Core.Bool.{Bool, true, false, cond}
 use mathlib.Core.Logic.{_≢_}
 use native.Mathlib.Omega.{arith}
 use borrow.Author.Tests.{eq-eqb, ne-eqb, eqb-true, eqb-false}
-use lib.Dec.{eqb}
+use lib.Dec.{T, eqb}
 use lib.ListN.{length, getD}
 use Rattle.sheet.specs.Check.{Answer, answer, done, checkAnswer}
 use Rattle.sheet.specs.Words.{Rules6}
-use Rattle.sheet.proofs.Folds.{held}
 use Rattle.state.specs.Session.{freshSession}
 use Rattle.state.specs.Opening.{openAnswer, opened}
 use Rattle.state.specs.declared.kept.Session.{Session}
@@ -30,11 +29,12 @@ module _ (w b : Bool) (a : Answer) where
   told-0 : w ≡ true → b ≡ true → done ≡ told
   told-0 e f = rw (e, f)
 
--- only tests that are passed lead to done
-passed : (w b : Bool) (a : Answer) → eqb (a .number) 0 ≡ w → told w b a ≡ done → (w ≡ true) × (b ≡ true)
-passed true true a e d = (refl, refl)
-passed true false a e d = let n = ap (λ (x : Answer). x .number) d in absurd (omega arith)
-passed false b a e d = absurd (eqb-false (a .number) 0 e (ap (λ (x : Answer). x .number) d))
+-- a refusal, then 7, then the rest: done only where both tests are passed and the rest is done
+pub opens-when : (w b : Bool) (refusal rest : Answer) → eqb (refusal .number) 0 ≡ w → cond w (cond b rest (answer 7 0)) refusal .number ≡ 0
+    → (T w) × (b ≡ true) × (rest .number ≡ 0)
+opens-when true true refusal rest e z = (tt, refl, z)
+opens-when true false refusal rest e z = absurd (omega arith)
+opens-when false b refusal rest e z = absurd (eqb-false (refusal .number) 0 e z)
 
 module _ (sheet proposals : List ℕ) where
   abbrev ok : Bool
@@ -60,8 +60,8 @@ module _ (sheet proposals : List ℕ) where
   -- where it is opened, both hold
   pub opens-says : openAnswer sheet proposals ≡ done → Rules6 sheet × (length proposals ≡ getD sheet 5 0)
   opens-says e =
-      let p = passed ok each (checkAnswer sheet) refl e in
-      (accepted-says sheet .0 (held ok (p .0)), eqb-true (length proposals) (getD sheet 5 0) (p .1))
+      let (t, counted, _) = opens-when ok each (checkAnswer sheet) done refl (ap (λ (a : Answer). a .number) e) in
+      (accepted-says sheet .0 t, eqb-true (length proposals) (getD sheet 5 0) counted)
 
   -- ---- the session by the answer
 
