@@ -9,7 +9,7 @@ use lib.Dec.{T}
 use lib.ListN.{length, getD}
 use Rattle.sheet.specs.Check.{within}
 use Rattle.sheet.proofs.Folds.{holds}
-use Rattle.state.specs.Session.{partyOf}
+use Rattle.state.specs.Session.{layout, partyOf}
 use Rattle.state.specs.WellFormed.{wellFormed}
 use Rattle.state.specs.declared.kept.Session.{Session}
 use Rattle.state.proofs.FormWords.{well-formed-says}
@@ -17,7 +17,7 @@ use Rattle.session.specs.Step as Rules
 use Rattle.session.specs.Calls.{Told, told, unlessRefused, unlessKept}
 use Rattle.session.specs.Run.{obeyed}
 use Rattle.session.specs.Reach.{Reached}
-use Rattle.session.proofs.Refusals.{parties-byte, past, answered, no-party}
+use Rattle.session.proofs.Refusals.{told-0, told-10, past, answered}
 use Rattle.session.proofs.Reached.{reached-parties, reached-well-formed}
 use Rattle.agreement.specs.Demand.{Opens}
 use Rattle.agreement.proofs.Theorems.{rules}
@@ -71,8 +71,8 @@ module _ (sheet proposals : List ℕ) (o : Opens sheet proposals) (low : Below 2
 
     -- a call that makes `act` of the session and answers `value`
     module _ (act : Session → ℕ → Session) (value : Session → ℕ → ℕ) (i : ℕ) where
-      test : within 1 n i ≡ within 1 (getD (s .sheet) 5 0) i
-      test = ap (λ (m : ℕ). within 1 m i) (sym (parties-byte s formed ∙ reached-parties sheet proposals (rules o) R))
+      test : within 1 n i ≡ within 1 (layout s .parties) i
+      test = ap (λ (m : ℕ). within 1 m i) (sym (reached-parties sheet proposals (rules o) R))
 
       abbrev tell : Session → Told
       tell t = unlessRefused t i (value t i)
@@ -83,15 +83,16 @@ module _ (sheet proposals : List ℕ) (o : Opens sheet proposals) (low : Below 2
       leaves : Leaves s sized tell go (cond (within 1 n i) (act s i) s) (cond (within 1 n i) 0 10)
       leaves = by (within 1 n i) refl
         where
-          well : true ≡ wellFormed s
-          well = sym (holds (wellFormed s) formed)
+          well : wellFormed s ≡ true
+          well = holds (wellFormed s) formed
 
           by : (w : Bool) → within 1 n i ≡ w → Leaves s sized tell go (cond w (act s i) s) (cond w 0 10)
           by true e =
-              let done = answered act value s i (past s i well refl (sym e ∙ test) refl) in
+              let passes = past s i (told 0 0) (told-0 (wellFormed s) (within 1 (layout s .parties) i) 0 well (sym test ∙ e)) refl in
+              let done = answered s i (act s i) (value s i) passes in
               let left = leaves-next s sized tell go (value s i) (done .1) in
               (left .0 ∙ ap sessionBytes (sym (done .0)), left .1)
-          by false e = leaves-same s sized tell go (no-party act value s i well refl (sym e ∙ test) refl .1)
+          by false e = leaves-same s sized tell go (told-10 (wellFormed s) (within 1 (layout s .parties) i) (value s i) well (sym test ∙ e))
 
     call-leaves : (c : Call) → (after (sessionBytes s) c ≡ sessionBytes (next n s c)) × (callWord (sessionBytes s) c % 256 ≡ refusalOf n c)
     call-leaves (step i) = leaves Rules.step Rules.placeActed i

@@ -1,22 +1,25 @@
 -- The open call is refused as the session's opening is, then where the slice is of another length; else the fresh session is written.
-use Prim.Native.Nat.{ℕ, _*_, _≤_}
+use Prim.Native.Nat.{ℕ, _-_, _*_, _≤_, min}
 use mathlib.Core.Path.{_≡_, sym, ap, _∙_}
 use mathlib.Core.Logic.{_≢_, _↔_}
-use mathlib.Core.List.{List}
-use mathlib.Core.Bool.{cond}
-use borrow.Author.Tests.{eq-eqb, ne-eqb}
-use lib.Dec.{eqb}
-use lib.ListN.{length, getD}
+use mathlib.Core.List.{List, _++_, map}
+use mathlib.Core.Bool.{Bool, true, _&&_, cond}
+use borrow.Author.Tests.{eq-eqb, ne-eqb, le-leb}
+use lib.Dec.{eqb, leb}
+use lib.ListN.{length, getD, replicate}
+use Rattle.sheet.specs.Lists.{from}
 use Rattle.sheet.specs.Check.{Answer, answer, done}
 use Rattle.sheet.specs.Answers.{answerOf}
 use Rattle.sheet.specs.declared.answer.Refusal.{Refusal}
 use Rattle.sheet.specs.declared.answer.Verdict.{Verdict}
 use Rattle.sheet.specs.declared.answer.Verdict.the-variants.{Refused}
-use Rattle.state.specs.Session.{freshSession}
-use Rattle.state.specs.Opening.{openAnswer, opened}
+use Rattle.state.specs.Session.{freshParty, noParty, filled, freshSession, ofParts}
+use Rattle.state.specs.Opening.{openAnswer}
+use Rattle.state.specs.declared.kept.Party.{Party}
 use Rattle.state.specs.declared.kept.Session.{Session}
 use Rattle.state.proofs.Verdicts.{refused-number}
-use Rattle.state.proofs.Openings.{opened-fresh}
+use Rattle.state.proofs.Filled.{fresh-taken, sheet-most}
+use Rattle.state.proofs.Openings.{opens-says}
 use Rattle.host.specs.Word.{answerWord}
 use Rattle.layout.specs.Layout.{proposalsOf, sessionBytes}
 use Rattle.host.specs.Calls.{proposalsFor, hostOpen, openBytes}
@@ -59,9 +62,21 @@ module _ (sheet bytes session : List ℕ) (count : ℕ) (fits : (m : ℕ) → 1 
     unfolding bytesAt
     open-short n = answers-at (answer 11 0) (opens .2 _ ∙ rw (ne-eqb (length session) 3418 n))
 
-    pub open-filled : length session ≡ 3418 → (s : Session) → s ≡ opened sheet xs → Answers 0 (sessionBytes s)
-    unfolding bytesAt
-    open-filled l s is =
-        let a = answers-at done (opens .2 _ ∙ rw (eq-eqb (length session) 3418 l)) in
-        let whole = is ∙ sym (opened-fresh sheet xs (sym e)) ∙ ap (λ (ys : List ℕ). freshSession sheet ys (getD sheet 5 0)) (opens .1) in
-        (a .0, ap sessionBytes whole ∙ a .1)
+    -- what is written for a fresh session
+    module _ (own : List ℕ) (parties : List Party) (own-is : own ≡ filled 16 xs)
+        (parties-are : parties ≡ map freshParty (from 1 (min (getD sheet 5 0) 16)) ++ replicate (16 - getD sheet 5 0) noParty) where
+      abbrev written : Session
+      written = ofParts (filled 1898 sheet) own (replicate 1024 0) (replicate 256 0) parties
+
+      pub open-filled : length session ≡ 3418 → (now : List ℕ)
+          → now ≡ cond (eqb (length session) 3418 && leb (length sheet) 1898) (sessionBytes written) session → Answers 0 now
+      unfolding bytesAt
+      open-filled l now is =
+          let rules = opens-says sheet xs (sym e) .0 in
+          let few = rules .before .before .before .header .partiesMost in
+          let a = answers-at done (opens .2 _ ∙ rw (eq-eqb (length session) 3418 l)) in
+          let both : (eqb (length session) 3418 && leb (length sheet) 1898) ≡ true = rw (eq-eqb (length session) 3418 l, le-leb (length sheet) 1898 (sheet-most sheet rules)) in
+          let fresh-is : written ≡ freshSession sheet xs (getD sheet 5 0) =
+          λ i. ofParts (filled 1898 sheet) (own-is i) (replicate 1024 0) (replicate 256 0) ((parties-are ∙ fresh-taken (getD sheet 5 0) few) i) in
+          let whole = fresh-is ∙ ap (λ (ys : List ℕ). freshSession sheet ys (getD sheet 5 0)) (opens .1) in
+          (a .0, is ∙ ap (λ (b : Bool). cond b (sessionBytes written) session) both ∙ ap sessionBytes whole ∙ a .1)

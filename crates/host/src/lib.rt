@@ -1,21 +1,17 @@
 // The calls for a host in C: numbers and byte slices, and one word as the answer.
-mod layout;
 mod words;
 
 ghost use mathlib.Core.Path.{_≡_};
-ghost use mathlib.Core.Bool.{cond};
 ghost use Prim.Native.Nat.{_<_};
 ghost use lib.ListN.{length};
-ghost use lib.Dec.{eqb};
 ghost use Rattle.sheet.specs.Check.{checkAnswer};
 ghost use Rattle.builder.specs.Build.{buildAnswer, outAfter};
 ghost use Rattle.session.specs.Calls.{toldOf};
 ghost use Rattle.session.specs.Run.{runAnswer};
 ghost use Rattle.host.specs.Word.{answerWord, toldWord};
-ghost use Rattle.host.specs.Layout.{sessionBytes};
 ghost use Rattle.host.specs.Calls.{hostOpen, openBytes, hostStep, stepBytes, hostStop, stopBytes, hostLive, lastIndex, heard, hostRun, runBytes};
-use session::calls;
-use session::reply::After;
+use layout::proposals;
+use session::parts;
 use session::reply::Reply;
 use session::runs;
 use sheet::Refusal;
@@ -45,32 +41,19 @@ pub extern "C" fn sepalsail_open(sheet: &[u8], proposals: &[u8], session: &mut [
     ensures { λ w. ⌜ w ≡ answerWord (hostOpen (now (sheet .entry)) (now (proposals .entry)) (length (now (session .entry)))) ⌝ }
     ensures { λ _. ⌜ now (session .exit) ≡ openBytes (now (sheet .entry)) (now (proposals .entry)) (now (session .entry)) ⌝ }
 {
-    let count = layout::proposals_count(proposals.len());
-    let own = layout::proposals_from(proposals, count);
-    let o = opening::open_value(sheet, &own[..count]);
-    let v = o.verdict;
+    let given = proposals::proposals_from(proposals);
+    let count = given.count;
+    let own = given.own;
+    let v = opening::opens(sheet, &own[..count]);
     if let Verdict::Refused(r) = v {
         return words::refused(r);
     }
     if session.len() != 3418 {
         return words::refused(Refusal::Output);
     }
-    layout::encode(o.session, session);
+    let parties = opening::fresh_parties(sheet[5]);
+    layout::write_fresh(sheet, own, parties, session);
     0
-}
-
-// The word of a call's answer; a session that the call did not refuse is written back.
-fn given_back(v: After, session: &mut [u8]) -> u64
-    requires { ⌜ length (now session) ≡ 3418 ⌝ }
-    ensures { λ w. ⌜ w ≡ toldWord (toldOf (v .reply)) ⌝ }
-    ensures { λ _. ⌜ now (session .exit) ≡ cond (eqb (toldOf (v .reply) .number) 0) (sessionBytes (v .session)) (now (session .entry)) ⌝ }
-{
-    let reply = v.reply;
-    if let Reply::Refused(r) = reply {
-        return words::refused(r);
-    }
-    layout::encode(v.session, session);
-    words::reply(reply)
 }
 
 // A step of a party: the place acted on, or 8 where nothing changes.
@@ -82,8 +65,27 @@ pub extern "C" fn sepalsail_step(session: &mut [u8], party: u32) -> u64
     if session.len() != 3418 {
         return words::refused(Refusal::Session);
     }
-    let s = layout::decode(session);
-    given_back(calls::step_value(s, party), session)
+    let mut sheet = [0u8; 1898];
+    let mut marks = [0u8; 1024];
+    let mut published = [0u8; 256];
+    layout::read_parts(session, &mut sheet, &mut marks, &mut published);
+    let proposals = layout::proposals_of(session);
+    let parties = layout::parties_of(session);
+    let turn = parts::step_parts(
+        &sheet,
+        &proposals,
+        &mut marks,
+        &mut published,
+        parties,
+        party,
+    );
+    let reply = turn.reply;
+    if let Reply::Refused(r) = reply {
+        return words::refused(r);
+    }
+    let after = turn.parties;
+    layout::write_acted(&marks, &published, after, session);
+    words::reply(reply)
 }
 
 // A stop of a party: its status afterwards.
@@ -95,8 +97,20 @@ pub extern "C" fn sepalsail_stop(session: &mut [u8], party: u32) -> u64
     if session.len() != 3418 {
         return words::refused(Refusal::Session);
     }
-    let s = layout::decode(session);
-    given_back(calls::stop_value(s, party), session)
+    let mut sheet = [0u8; 1898];
+    let mut marks = [0u8; 1024];
+    let mut published = [0u8; 256];
+    layout::read_parts(session, &mut sheet, &mut marks, &mut published);
+    let proposals = layout::proposals_of(session);
+    let parties = layout::parties_of(session);
+    let turn = parts::stop_parts(&sheet, &proposals, &marks, &published, parties, party);
+    let reply = turn.reply;
+    if let Reply::Refused(r) = reply {
+        return words::refused(r);
+    }
+    let after = turn.parties;
+    layout::write_parties(after, session);
+    words::reply(reply)
 }
 
 // How many parties are live.
@@ -107,8 +121,13 @@ pub extern "C" fn sepalsail_live(session: &[u8]) -> u64
     if session.len() != 3418 {
         return words::refused(Refusal::Session);
     }
-    let s = layout::decode(session);
-    words::reply(calls::live_value(s))
+    let mut sheet = [0u8; 1898];
+    let mut marks = [0u8; 1024];
+    let mut published = [0u8; 256];
+    layout::read_parts(session, &mut sheet, &mut marks, &mut published);
+    let proposals = layout::proposals_of(session);
+    let parties = layout::parties_of(session);
+    words::reply(parts::live_parts(&sheet, &proposals, &marks, &published, parties))
 }
 
 // A schedule that has a byte at the last index: never obeyed, so it is run as far as that byte with no room for a record.
@@ -135,8 +154,9 @@ pub extern "C" fn sepalsail_run(
     ensures { λ w. ⌜ w ≡ answerWord (hostRun (now (sheet .entry)) (now (proposals .entry)) (now (schedule .entry)) (length (now (out .entry)))) ⌝ }
     ensures { λ _. ⌜ now (out .exit) ≡ runBytes (now (sheet .entry)) (now (proposals .entry)) (now (schedule .entry)) (now (out .entry)) ⌝ }
 {
-    let count = layout::proposals_count(proposals.len());
-    let own = layout::proposals_from(proposals, count);
+    let given = proposals::proposals_from(proposals);
+    let count = given.count;
+    let own = given.own;
     if 4294967295 < schedule.len() {
         return run_long(sheet, &own[..count], schedule);
     }

@@ -1,84 +1,99 @@
--- The proposals that the slice holds are lent to the opening, whose verdict decides; what it opened is written.
+-- The proposals that the slice holds are lent to the opening, whose verdict decides; then a fresh session is written.
 use Prim.Native.Nat.{ℕ}
 use mathlib.Core.Path.{_≡_, sym, ap, _∙_}
 use mathlib.Core.List.{List}
+use native.Mathlib.Omega.{arith}
 use borrow.Author.Needs.{needs}
 use lib.ListN.{take}
+use Rattle.sheet.specs.Check.{done}
 use Rattle.sheet.specs.Answers.{answerOf}
-use Rattle.state.specs.Opening.{openAnswer, opened}
+use Rattle.state.specs.Opening.{openAnswer}
+use Rattle.state.proofs.Openings.{opens-says}
 use Rattle.layout.specs.Layout.{proposalsOf}
-use Rattle.layout.proofs.Filling.{front, front-length}
+use Rattle.layout.proofs.Filling.{front, front-length, front-fits}
 use Rattle.host.proofs.HostOpen.{open-refused, open-short, open-filled}
 use Rattle.host.proofs.sepalsail_open.Statement.{statement}
 use Rattle.host.proofs.sepalsail_open.Tie as tie
 
-abbrev entry : tie.After-proposals-from → tie.Start
-entry c = c .before .before .before .before .before
+abbrev start : tie.After-proposals-from → tie.Start
+start c = c .before .before .before .before
+
+abbrev sheet : tie.After-proposals-from → List ℕ
+sheet c = start c .args .sheet .now
+
+abbrev bytes : tie.After-proposals-from → List ℕ
+bytes c = start c .args .proposals .now
+
+abbrev count : tie.After-proposals-from → ℕ
+count c = c .proposals-from .result .count
 
 -- the proposals that are lent
 abbrev lent : tie.After-proposals-from → List ℕ
-lent c = take (c .before .proposals-count .result) (c .proposals-from .result)
+lent c = take (count c) (c .proposals-from .result .own)
 
-lent-is : (c : tie.After-proposals-from) → lent c ≡ proposalsOf (c .before .proposals-count .result) (entry c .args .proposals .now)
-lent-is c = front (entry c .args .proposals .now) (c .proposals-from .result) (c .before .proposals-count .result) (c .proposals-from .ensures)
+lent-is : (c : tie.After-proposals-from) → lent c ≡ proposalsOf (count c) (bytes c)
+lent-is c = front (bytes c) (c .proposals-from .result .own) (count c) (c .proposals-from .ensures .1)
 
-slice-aggregate-open-value : tie.Need-slice-aggregate-open-value
-slice-aggregate-open-value c =
-    let filled = c .before in
-    sym (front-length (entry filled .args .proposals .now) (filled .proposals-from .result) (filled .before .proposals-count .result) (filled .proposals-from .ensures))
+array-share-prefix-own : tie.Need-array-share-prefix-own
+array-share-prefix-own c =
+    let given = c .before in
+    front-fits (bytes given) (given .proposals-from .result .own) (count given) (given .proposals-from .ensures .1)
 
--- the answer and the session of the opening
-answer-is : (c : tie.After-open-value)
-    → answerOf (c .open-value .result .verdict)
-    ≡ (let f = c .before .before in openAnswer (entry f .args .sheet .now) (proposalsOf (f .before .proposals-count .result) (entry f .args .proposals .now)))
-answer-is c = let f = c .before .before in c .open-value .ensures .1 ∙ ap (openAnswer (entry f .args .sheet .now)) (lent-is f)
+slice-aggregate-opens : tie.Need-slice-aggregate-opens
+slice-aggregate-opens c =
+    let given = c .before .before in
+    sym (front-length (bytes given) (given .proposals-from .result .own) (count given) (given .proposals-from .ensures .1))
 
-session-is : (c : tie.After-open-value)
-    → c .open-value .result .session
-    ≡ (let f = c .before .before in opened (entry f .args .sheet .now) (proposalsOf (f .before .proposals-count .result) (entry f .args .proposals .now)))
-session-is c = let f = c .before .before in c .open-value .ensures .0 ∙ ap (opened (entry f .args .sheet .now)) (lent-is f)
+abbrev given : tie.After-opens → tie.After-proposals-from
+given c = c .before .before .before
+
+answer-is : (c : tie.After-opens) → answerOf (c .opens .result) ≡ openAnswer (sheet (given c)) (proposalsOf (count (given c)) (bytes (given c)))
+answer-is c = c .opens .ensures ∙ ap (openAnswer (sheet (given c))) (lent-is (given c))
 
 returns : tie.Need-returns
 returns c =
     let v = c .before .before .v .given in
     let o = c .before .before .before .before in
-    let f = o .before .before in
-    let a = entry f .args in
-    let r = open-refused (a .sheet .now) (a .proposals .now) (a .session .now) _ (f .before .proposals-count .ensures .2) _ (v .0 .0) (v .1) (answer-is o) in
+    let g = given o in
+    let r = open-refused (sheet g) (bytes g) (start g .args .session .now) _ (g .proposals-from .ensures .0 .2) _ (v .0 .0) (v .1) (answer-is o) in
     (c .refused .ensures ∙ r .0, r .1)
+
+done-is : (c : tie.After-enum-told) → let g = given (c .before .before) in done ≡ openAnswer (sheet g) (proposalsOf (count g) (bytes g))
+done-is c = sym (ap answerOf (c .enum-told .given .1)) ∙ answer-is (c .before .before)
 
 returns-2 : tie.Need-returns-2
 returns-2 c =
     let told = c .before .before in
-    let o = told .before .before in
-    let f = o .before .before in
-    let a = entry f .args in
-    let e = sym (ap answerOf (told .enum-told .given .1)) ∙ answer-is o in
-    let r = open-short (a .sheet .now) (a .proposals .now) (a .session .now) _ (f .before .proposals-count .ensures .2) e (c .before .if1 .taken) in
+    let g = given (told .before .before) in
+    let r = open-short (sheet g) (bytes g) (start g .args .session .now) _ (g .proposals-from .ensures .0 .2) (done-is told) (c .before .if1 .taken) in
     (c .refused2 .ensures ∙ r .0, r .1)
+
+-- the sheet has a number of parties
+shared-slice-read-fresh-parties : tie.Need-shared-slice-read-fresh-parties
+shared-slice-read-fresh-parties c =
+    let told = c .before .before in
+    let g = given (told .before .before) in
+    let whole = opens-says (sheet g) (proposalsOf (count g) (bytes g)) (sym (done-is told)) .0 .before .before .before .before .before .whole in
+    omega arith
 
 returns-3 : tie.Need-returns-3
 returns-3 c =
     let written = c .before .before in
-    let here = written .before .before in
+    let filled = written .before .before in
+    let here = filled .before .before in
     let told = here .before in
-    let o = told .before .before in
-    let f = o .before .before in
-    let a = entry f .args in
-    let e = sym (ap answerOf (told .enum-told .given .1)) ∙ answer-is o in
-    let r =
-    open-filled (a .sheet .now) (a .proposals .now) (a .session .now) _ (f .before .proposals-count .ensures .2) e (here .if1 .left)
-    (o .open-value .result .session) (session-is o) in
-    (r .0, written .encode .ensures ∙ r .1)
+    let g = given (told .before .before) in
+    open-filled (sheet g) (bytes g) (start g .args .session .now) _ (g .proposals-from .ensures .0 .2) (done-is told)
+    (g .proposals-from .result .own) (filled .fresh-parties .result) (g .proposals-from .ensures .1) (filled .fresh-parties .ensures) (here .if1 .left) _
+    (written .write-fresh .ensures)
 
 pub sepalsail-open-spec : {M : Type 1} → statement M
 sepalsail-open-spec =
     tie.close
     (tie.spec
     (λ c κs. search needs)
-    (λ c κs. search needs)
-    (λ c. search needs)
-    slice-aggregate-open-value
+    array-share-prefix-own
+    slice-aggregate-opens
     (λ c κs. search needs)
     (λ c. search needs)
     (λ c κs. search needs)
@@ -86,6 +101,8 @@ sepalsail-open-spec =
     (λ c. search needs)
     (λ c κs. search needs)
     returns-2
+    shared-slice-read-fresh-parties
+    (λ c κs. search needs)
     (λ c κs. search needs)
     (λ c. search needs)
     returns-3)

@@ -1,5 +1,5 @@
 -- The proposals that the slice holds are lent to the run; a schedule with a byte at the last index is refused and nothing is written.
-use Prim.Native.Nat.{ℕ}
+use Prim.Native.Nat.{ℕ, _≤_}
 use mathlib.Core.Path.{_≡_, sym, ap, _∙_}
 use mathlib.Core.List.{List}
 use mathlib.Core.Bool.{cond}
@@ -12,31 +12,34 @@ use Rattle.session.specs.Run.{runAnswer, runOut}
 use Rattle.host.specs.Word.{answerWord}
 use Rattle.layout.specs.Layout.{proposalsOf}
 use Rattle.host.specs.Calls.{unlessUnopened, proposalsFor, lastIndex, heard}
-use Rattle.layout.proofs.Filling.{front, front-length}
+use Rattle.layout.proofs.Filling.{front, front-length, front-fits}
 use Rattle.host.proofs.Heard.{unheard, heard-some}
 use Rattle.host.proofs.HostRun.{run-is, out-is, bad-any, bad-kept}
 use Rattle.host.proofs.sepalsail_run.Statement.{statement}
 use Rattle.host.proofs.sepalsail_run.Tie as tie
 
 abbrev entry : tie.After-proposals-from → tie.Start
-entry c = c .before .before .before .before .before .before
+entry c = c .before .before .before .before .before
+
+abbrev count : tie.After-proposals-from → ℕ
+count c = c .proposals-from .result .count
 
 -- the proposals that are lent
-lent-is : (c : tie.After-proposals-from)
-    → take (c .before .proposals-count .result) (c .proposals-from .result) ≡ proposalsOf (c .before .proposals-count .result) (entry c .args .proposals .now)
-lent-is c = front (entry c .args .proposals .now) (c .proposals-from .result) (c .before .proposals-count .result) (c .proposals-from .ensures)
+lent-is : (c : tie.After-proposals-from) → take (count c) (c .proposals-from .result .own) ≡ proposalsOf (count c) (entry c .args .proposals .now)
+lent-is c = front (entry c .args .proposals .now) (c .proposals-from .result .own) (count c) (c .proposals-from .ensures .1)
 
-lent-count : (c : tie.After-proposals-from)
-    → c .before .proposals-count .result ≡ length (take (c .before .proposals-count .result) (c .proposals-from .result))
-lent-count c =
-    sym (front-length (entry c .args .proposals .now) (c .proposals-from .result) (c .before .proposals-count .result) (c .proposals-from .ensures))
+lent-count : (c : tie.After-proposals-from) → count c ≡ length (take (count c) (c .proposals-from .result .own))
+lent-count c = sym (front-length (entry c .args .proposals .now) (c .proposals-from .result .own) (count c) (c .proposals-from .ensures .1))
+
+lent-fits : (c : tie.After-proposals-from) → count c ≤ length (c .proposals-from .result .own)
+lent-fits c = front-fits (entry c .args .proposals .now) (c .proposals-from .result .own) (count c) (c .proposals-from .ensures .1)
 
 returns : tie.Need-returns
 returns c =
-    let f = c .before .before .before in
+    let f = c .before .before .before .before in
     let a = entry f .args in
-    let n = f .before .proposals-count .result in
-    let fits = f .before .proposals-count .ensures .2 in
+    let n = count f in
+    let fits = f .proposals-from .ensures .0 .2 in
     let h = heard (a .schedule .now) in
     let bad = heard-some lastIndex (a .sheet .now) (proposalsOf n (a .proposals .now)) (a .schedule .now) (omega (arith, c .before .before .if1 .taken)) in
     let told = ap (λ (xs : List ℕ). runAnswer (a .sheet .now) xs h 0) (lent-is f) in (
@@ -49,13 +52,13 @@ returns-2 : tie.Need-returns-2
 returns-2 c =
     let ran = c .before .before .before in
     let short = ran .before .before .before in
-    let f = short .before in
+    let f = short .before .before in
     let a = entry f .args in
     let sheet = a .sheet .now in
     let bytes = a .proposals .now in
     let out = a .out .now in
-    let n = f .before .proposals-count .result in
-    let fits = f .before .proposals-count .ensures .2 in
+    let n = count f in
+    let fits = f .proposals-from .ensures .0 .2 in
     let own = proposalsFor sheet bytes in
     let all = sym (unheard lastIndex (a .schedule .now) (short .if1 .left)) in
     let answer : List ℕ → Answer = λ s. unlessUnopened sheet bytes (runAnswer sheet own s (length out)) in
@@ -76,13 +79,12 @@ sepalsail-run-spec =
     tie.close
     (tie.spec
     (λ c κs. search needs)
-    (λ c κs. search needs)
-    (λ c. search needs)
-    (λ c. lent-count (c .before .before))
+    (λ c. lent-fits (c .before .before))
+    (λ c. lent-count (c .before .before .before))
     (λ c κs. search needs)
     returns
-    (λ c. search needs)
-    (λ c. lent-count (c .before .before))
+    (λ c. lent-fits (c .before .before))
+    (λ c. lent-count (c .before .before .before))
     (λ c κs. search needs)
     (λ c κs. search needs)
     (λ c. search needs)
