@@ -5,3 +5,4 @@ pub mod Bytes
 pub mod Cuts
 pub mod Layouts
 pub mod Filling
+pub mod Counts
