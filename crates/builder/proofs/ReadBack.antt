@@ -14,10 +14,10 @@ use Rattle.sheet.specs.declared.rows.Row.{Row}
 use Rattle.sheet.specs.declared.rows.Slot.{Slot}
 use Rattle.builder.specs.Build.{rowBytes, headerBytes, builtRow, builtUnits, builtSheet}
 use Rattle.builder.specs.Given.{Given}
+use Rattle.sheet.proofs.Flat.{length-flat}
 use Rattle.sheet.proofs.Slots.{length-slots, count-most, slot-row, slots-step}
 use Rattle.sheet.proofs.Numbers.{num-bytes}
 use Rattle.builder.proofs.Givens.{given-ranges}
-use Rattle.builder.proofs.Written.{length-flat}
 use Rattle.builder.proofs.Built.{Fits, built-fits, built-header}
 
 -- ---- a row

@@ -6,7 +6,6 @@ ghost use Prim.Native.Nat.{_<_};
 ghost use lib.ListN.{length};
 ghost use Rattle.sheet.specs.Check.{checkAnswer};
 ghost use Rattle.builder.specs.Build.{buildAnswer, outAfter};
-ghost use Rattle.session.specs.Calls.{toldOf};
 ghost use Rattle.session.specs.Run.{runAnswer};
 ghost use Rattle.host.specs.Word.{answerWord, toldWord};
 ghost use Rattle.host.specs.Calls.{hostOpen, openBytes, hostStep, stepBytes, hostStop, stopBytes, hostLive, lastIndex, heard, hostRun, runBytes};

@@ -9,7 +9,7 @@ use Rattle.sheet.specs.Lists.{from}
 use Rattle.sheet.specs.Bytes.{num, bytesOf}
 use Rattle.sheet.proofs.Numbers.{num-bytes, num-below}
 use Rattle.sheet.proofs.Ranges.{range-at}
-use Rattle.builder.proofs.Written.{length-flat}
+use Rattle.sheet.proofs.Flat.{length-flat}
 use Rattle.state.specs.Session.{noParty, ofParts}
 use Rattle.state.specs.declared.kept.Party.{Party}
 use Rattle.state.specs.declared.kept.Session.{Session}

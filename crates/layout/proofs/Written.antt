@@ -9,7 +9,7 @@ use lib.ListN.{length, getD, take, drop, length-append, take-append-drop}
 use lib.Seq.{paste, take-at, take-all, drop-at, drop-drop, drop-length, length-take-le}
 use borrow.Rule.Slice.PartMut.{putMid}
 use Rattle.sheet.specs.Lists.{flat}
-use Rattle.builder.proofs.Parts.{written-behind}
+use Rattle.sheet.proofs.Parts.{written-behind}
 
 module _ {A : Type 0} where
   -- of o, that was o₀: front stands written, up to a

@@ -11,8 +11,8 @@ use lib.Seq.{drop-drop, drop-append-add, length-take-le}
 use borrow.Author.Tests.{le-leb}
 use borrow.Rule.Slice.PartMut.{putMid}
 use Rattle.sheet.specs.Lists.{flat}
-use Rattle.builder.proofs.Parts.{written-behind}
-use Rattle.builder.proofs.Written.{flat-taken, length-flat}
+use Rattle.sheet.proofs.Parts.{written-behind}
+use Rattle.sheet.proofs.Flat.{flat-taken, length-flat}
 use Rattle.state.specs.declared.kept.Party.{Party}
 use Rattle.record.specs.Record.{partyBytes, recordLength, recordHead, recordBytes}
 

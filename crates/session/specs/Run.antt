@@ -7,7 +7,6 @@ use lib.Dec.{ltb, eqb}
 use Rattle.sheet.specs.Lists.{firstBad}
 use Rattle.sheet.specs.Check.{Answer, answer, done, within}
 use Rattle.state.specs.Session.{freshSession}
-use Rattle.state.specs.declared.kept.Party.{Party}
 use Rattle.state.specs.Opening.{openAnswer}
 use Rattle.state.specs.declared.kept.Session.{Session}
 use Rattle.record.specs.Record.{recordLength, recordBytes}

@@ -3,6 +3,8 @@ pub mod Folds
 pub mod Bits
 pub mod Numbers
 pub mod Ranges
+pub mod Parts
+pub mod Flat
 pub mod Slots
 pub mod FirstBad
 pub mod WriteSets

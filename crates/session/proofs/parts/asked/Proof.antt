@@ -1,5 +1,5 @@
 -- The first test that fails tells its number, and past both the value is 0.
-use mathlib.Core.Path.{_≡_, sym, ap, _∙_}
+use mathlib.Core.Path.{_≡_}
 use mathlib.Core.Bool.{Bool, true}
 use borrow.Author.Needs.{needs}
 use Rattle.sheet.specs.Check.{within}

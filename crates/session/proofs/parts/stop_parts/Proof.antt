@@ -10,7 +10,7 @@ use Rattle.state.specs.declared.kept.Party.{Party}
 use Rattle.state.specs.declared.kept.Session.{Session}
 use Rattle.state.proofs.Verdicts.{refuses}
 use Rattle.session.specs.Step.{stoppedParty, stop}
-use Rattle.session.specs.Calls.{Told, told, toldOf}
+use Rattle.session.specs.Calls.{told, toldOf}
 use Rattle.session.proofs.Refusals.{Past, past, refused, answered}
 use Rattle.session.proofs.parts.stop_parts.Statement.{statement}
 use Rattle.session.proofs.parts.stop_parts.Tie as tie
