@@ -20,8 +20,8 @@ test:
 	@bash .ci/run
 
 # FOR=seconds and SEED=number choose how long and with which inputs the comparison runs
-test-long: $(LIB)
-	@bash tests/compare.sh --seconds $${FOR:-600} --seed $${SEED:-1}
+test-long: $(LIB) target/bin/lister
+	@bash tests/compare.sh --seconds $${FOR:-600} --seed $${SEED:-1} --lister target/bin/lister
 
 # runs with schedules of 2^32 bytes, one less and some more (some minutes)
 test-huge: $(LIB)
