@@ -3,5 +3,5 @@
 set -eu
 cd "$(dirname "$0")/.."
 export CARGO_TARGET_DIR="$PWD/target/compare" SEPALSAIL_LIB="$PWD/target/staticlib/libhost.a"
-cargo build --release --offline --quiet --manifest-path tests/compare/Cargo.toml --features "$(cat tests/features)"
+cargo build --release --offline --quiet --manifest-path tests/compare/Cargo.toml
 exec "$CARGO_TARGET_DIR/release/bench" "$@"

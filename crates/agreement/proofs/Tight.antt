@@ -1,4 +1,4 @@
--- Each step limit is reached: for two and for three parties a schedule on which a party takes as many own steps as it may. Both sides compute.
+-- Each step limit is reached: for one, two and three parties a schedule on which a party takes as many own steps as it may. Both sides compute.
 use Prim.Native.Nat.{ℕ}
 use mathlib.Core.Path.{_≡_, refl}
 use mathlib.Core.List.{List, [], _∷_, _++_}

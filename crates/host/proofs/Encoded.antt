@@ -22,10 +22,10 @@ use Rattle.session.proofs.Reached.{reached-parties, reached-well-formed}
 use Rattle.agreement.specs.Demand.{Opens}
 use Rattle.agreement.proofs.Theorems.{rules}
 use Rattle.host.specs.Word.{toldWord}
-use Rattle.layout.specs.Layout.{sessionBytes, sessionOf, Below, Sized}
+use Rattle.image.specs.Image.{sessionBytes, sessionOf, Below, Sized}
 use Rattle.host.specs.Calls.{onSession, bytesAfter}
 use Rattle.host.specs.Demand.{Call, step, stop, after, callWord, afterAll, wordsOf, refusalOf}
-use Rattle.layout.proofs.Layouts.{length-session, decode-encode}
+use Rattle.image.proofs.Inverse.{length-session, decode-encode}
 use Rattle.host.proofs.Packing.{word-number}
 use Rattle.host.proofs.Fitting.{reached-sized}
 use Rattle.host.proofs.Scheduled.{scheduleOf, next, next-reached, schedule-next}

@@ -20,8 +20,8 @@ use Rattle.session.proofs.Reached.{Lengths, reached-kept, reached-parties, reac
 use Rattle.agreement.specs.Demand.{Opens}
 use Rattle.agreement.proofs.Theorems.{rules}
 use Rattle.agreement.proofs.Parties.{Fits, fits}
-use Rattle.layout.specs.Layout.{Below, SizedParty, Sized}
-use Rattle.layout.proofs.Bytes.{below-append}
+use Rattle.image.specs.Image.{Below, SizedParty, Sized}
+use Rattle.image.proofs.Bytes.{below-append}
 
 -- filled with zeros
 below-filled : (m size : ℕ) (xs : List ℕ) → 0 < m → Below m xs → Below m (filled size xs)

@@ -21,7 +21,7 @@ use Rattle.state.proofs.Verdicts.{refused-number}
 use Rattle.state.proofs.Filled.{fresh-taken, sheet-most}
 use Rattle.state.proofs.Openings.{opens-says}
 use Rattle.host.specs.Word.{answerWord}
-use Rattle.layout.specs.Layout.{proposalsOf, sessionBytes}
+use Rattle.image.specs.Image.{proposalsOf, sessionBytes}
 use Rattle.host.specs.Calls.{proposalsFor, hostOpen, openBytes}
 use Rattle.host.proofs.Opened.{Opens, if-opened, if-refused}
 

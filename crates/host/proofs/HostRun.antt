@@ -11,7 +11,7 @@ use Rattle.sheet.specs.Lists.{firstBad}
 use Rattle.sheet.specs.Check.{Answer}
 use Rattle.state.specs.Opening.{openAnswer}
 use Rattle.session.specs.Run.{byteOk, runAnswer, runOut}
-use Rattle.layout.specs.Layout.{proposalsOf}
+use Rattle.image.specs.Image.{proposalsOf}
 use Rattle.host.specs.Calls.{unlessUnopened, proposalsFor}
 use Rattle.host.proofs.Opened.{Opens, Refuses, lent}
 

@@ -25,10 +25,10 @@ use Rattle.record.proofs.Records.{length-record}
 use Rattle.session.specs.Calls.{Told, told}
 use Rattle.session.specs.Run.{byteOk, runAnswer, ran, runOut}
 use Rattle.state.proofs.Copies.{length-range}
-use Rattle.layout.specs.Layout.{sessionBytes, sessionOf}
+use Rattle.image.specs.Image.{sessionBytes, sessionOf}
 use Rattle.host.specs.Calls.{proposalsFor, hostOpen, openBytes, onSession, bytesAfter}
 use Rattle.host.specs.Says.{Leaves, SamePast}
-use Rattle.layout.proofs.Layouts.{Full, length-full, full-session}
+use Rattle.image.proofs.Inverse.{Full, length-full, full-session}
 use Rattle.host.proofs.Lengths.{full-fresh, full-obeyed}
 
 -- ---- bytes that are written where the number is 0

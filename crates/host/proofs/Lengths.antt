@@ -19,7 +19,7 @@ use Rattle.session.specs.Calls.{unlessKept}
 use Rattle.session.specs.Run.{entry, obeyed}
 use Rattle.session.proofs.Stamps.{length-stamped}
 use Rattle.session.proofs.Changes.{step-either}
-use Rattle.layout.proofs.Layouts.{Full}
+use Rattle.image.proofs.Inverse.{Full}
 
 -- ---- one act
 

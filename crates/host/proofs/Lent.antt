@@ -11,8 +11,8 @@ use Rattle.state.specs.Session.{ofParts}
 use Rattle.state.specs.declared.kept.Party.{Party}
 use Rattle.state.specs.declared.kept.Session.{Session}
 use Rattle.session.specs.Calls.{Told, told}
-use Rattle.layout.specs.Layout.{partiesBytes, sessionBytes, sessionOf, Below}
-use Rattle.layout.proofs.Layouts.{encode-acted, encode-parties}
+use Rattle.image.specs.Image.{partiesBytes, sessionBytes, sessionOf, Below}
+use Rattle.image.proofs.Inverse.{encode-acted, encode-parties}
 use Rattle.host.specs.Word.{toldWord}
 use Rattle.host.specs.Calls.{onSession, bytesAfter}
 

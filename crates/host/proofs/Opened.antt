@@ -17,7 +17,7 @@ use Rattle.sheet.proofs.Says.{rows, writers}
 use Rattle.state.specs.Opening.{openAnswer}
 use Rattle.state.proofs.FormWords.{accepted-says}
 use Rattle.state.proofs.Copies.{length-range}
-use Rattle.layout.specs.Layout.{proposalsOf}
+use Rattle.image.specs.Image.{proposalsOf}
 use Rattle.host.specs.Calls.{unlessUnopened, proposalsFor}
 
 -- what is chosen where a test is passed has a property, and what where it is not

@@ -26,9 +26,9 @@ use Rattle.state.proofs.FormWords.{accepted-says}
 use Rattle.state.proofs.Copies.{length-range, range-at}
 use Rattle.state.proofs.Openings.{opens-when}
 use Rattle.agreement.specs.Demand.{Opens}
-use Rattle.layout.specs.Layout.{sessionBytes, Below}
+use Rattle.image.specs.Image.{sessionBytes, Below}
 use Rattle.host.specs.Calls.{proposalsFor, hostOpen, openBytes}
-use Rattle.layout.proofs.Bytes.{below-cons, below-append, below-flat, below-bytes}
+use Rattle.image.proofs.Bytes.{below-cons, below-append, below-flat, below-bytes}
 use Rattle.host.proofs.Leaving.{fits-when}
 
 -- ---- the tests

@@ -33,7 +33,7 @@ use Rattle.session.specs.Calls.{Told, unlessRefused, stepTold, stopTold, countO
 use Rattle.session.specs.Run.{byteOk, runAnswer}
 use Rattle.session.proofs.Refusals.{parties-few}
 use Rattle.host.specs.Word.{word}
-use Rattle.layout.specs.Layout.{sessionOf}
+use Rattle.image.specs.Image.{sessionOf}
 use Rattle.host.specs.Calls.{unlessUnopened, proposalsFor, onSession, badAt, hostOpen}
 use Rattle.host.specs.Says.{NoPosition, ReadBack}
 use Rattle.host.proofs.Packing.{word-number, word-value, word-position}

@@ -12,9 +12,9 @@ use Rattle.state.specs.declared.kept.Party.{Party}
 use Rattle.state.specs.declared.kept.Session.{Session}
 use Rattle.state.proofs.Copies.{range-at}
 use Rattle.agreement.proofs.Readings.{Says}
-use Rattle.layout.specs.Layout.{partyFrom, sessionBytes, Sized}
+use Rattle.image.specs.Image.{partyFrom, sessionBytes, Sized}
 use Rattle.host.specs.Demand.{placeIn, statusIn, stepsIn, decisionIn}
-use Rattle.layout.proofs.Layouts.{decode-encode}
+use Rattle.image.proofs.Inverse.{decode-encode}
 
 -- the bytes say p of party i
 abbrev pub In : List ℕ → ℕ → Party → Type 0

@@ -15,10 +15,10 @@ use Rattle.session.specs.Reach.{stepLimit, Reached, here}
 use Rattle.agreement.specs.Demand.{Opens}
 use Rattle.agreement.proofs.Theorems.{rules, reached}
 use Rattle.agreement.proofs.Readings.{read}
-use Rattle.layout.specs.Layout.{sessionBytes, Below, Sized}
+use Rattle.image.specs.Image.{sessionBytes, Below, Sized}
 use Rattle.host.specs.Calls.{proposalsFor, hostOpen, openBytes}
 use Rattle.host.specs.Demand.{Call, afterAll, wordsOf, statusIn, stepsIn, decisionIn, leftBy, OfHost, OfHostCalls, OfHostBuilt}
-use Rattle.layout.proofs.Layouts.{length-session}
+use Rattle.image.proofs.Inverse.{length-session}
 use Rattle.host.proofs.Fitting.{reached-sized}
 use Rattle.host.proofs.Scheduled.{scheduleOf, schedule-good, schedule-steps}
 use Rattle.host.proofs.Encoded.{calls-leave, calls-number}

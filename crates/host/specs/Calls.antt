@@ -9,7 +9,7 @@ use Rattle.state.specs.Session.{freshSession}
 use Rattle.state.specs.declared.kept.Session.{Session}
 use Rattle.session.specs.Calls.{Told, told, stepTold, stepped, stopTold, stopped, liveTold}
 use Rattle.session.specs.Run.{runAnswer, runOut}
-use Rattle.layout.specs.Layout.{proposalsOf, sessionBytes, sessionOf}
+use Rattle.image.specs.Image.{proposalsOf, sessionBytes, sessionOf}
 
 -- ---- open and run: sheet, 7
 

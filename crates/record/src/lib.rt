@@ -37,7 +37,7 @@ fn put_party(o: &mut [u8], p: Party)
 }
 
 // The record of the first n parties; the bytes past it stay.
-fn put_parties(out: &mut [u8], n: u8, parties: [Party; 16])
+fn put_whole(out: &mut [u8], n: u8, parties: [Party; 16])
     requires { ⌜ (n ≤ 16) × (recordLength n ≤ length (now out)) ⌝ }
     ensures { λ _. ⌜ now (out .exit) ≡ recordBytes n parties ++ drop (recordLength n) (now (out .entry)) ⌝ }
 {
@@ -58,6 +58,6 @@ pub fn put_record(out: &mut [u8], n: u8, parties: [Party; 16])
         (now (out .entry)) ⌝ }
 {
     if n <= 16 && 4 + 7 * (n as usize) <= out.len() {
-        put_parties(out, n, parties);
+        put_whole(out, n, parties);
     }
 }

@@ -1,4 +1,4 @@
--- Document 01's session, in its order: read from the top.
+-- Document 01's steps, calls and runs, and what they reach: read from the top. `Ready` is what the acts ask of their caller.
 pub mod Step
 pub mod Calls
 pub mod Run

@@ -9,8 +9,8 @@ use Rattle.sheet.specs.Check.{done}
 use Rattle.sheet.specs.Answers.{answerOf}
 use Rattle.state.specs.Opening.{openAnswer}
 use Rattle.state.proofs.Openings.{opens-says}
-use Rattle.layout.specs.Layout.{proposalsOf}
-use Rattle.layout.proofs.Filling.{front, front-length, front-fits}
+use Rattle.image.specs.Image.{proposalsOf}
+use Rattle.image.proofs.Filling.{front, front-length, front-fits}
 use Rattle.host.proofs.HostOpen.{open-refused, open-short, open-filled}
 use Rattle.host.proofs.sepalsail_open.Statement.{statement}
 use Rattle.host.proofs.sepalsail_open.Tie as tie

@@ -10,9 +10,9 @@ use lib.ListN.{length, take}
 use Rattle.sheet.specs.Check.{Answer}
 use Rattle.session.specs.Run.{runAnswer, runOut}
 use Rattle.host.specs.Word.{answerWord}
-use Rattle.layout.specs.Layout.{proposalsOf}
+use Rattle.image.specs.Image.{proposalsOf}
 use Rattle.host.specs.Calls.{unlessUnopened, proposalsFor, lastIndex, heard}
-use Rattle.layout.proofs.Filling.{front, front-length, front-fits}
+use Rattle.image.proofs.Filling.{front, front-length, front-fits}
 use Rattle.host.proofs.Heard.{unheard, heard-some}
 use Rattle.host.proofs.HostRun.{run-is, out-is, bad-any, bad-kept}
 use Rattle.host.proofs.sepalsail_run.Statement.{statement}

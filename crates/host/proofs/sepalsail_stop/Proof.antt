@@ -8,7 +8,7 @@ use Rattle.state.specs.declared.kept.Session.{Session}
 use Rattle.state.proofs.Verdicts.{refuses}
 use Rattle.session.specs.Calls.{Told, toldOf, stopTold, stopped}
 use Rattle.session.specs.declared.reply.Reply.{Reply}
-use Rattle.layout.specs.Layout.{Below}
+use Rattle.image.specs.Image.{Below}
 use Rattle.host.specs.Word.{toldWord}
 use Rattle.host.proofs.Lent.{refused-9, answered, refused, Read, whole, parts-read, parties-written}
 use Rattle.host.proofs.sepalsail_stop.Statement.{statement}

@@ -9,7 +9,7 @@ returns : tie.Need-returns
 returns c =
     let call = c .before .before in
     let past = call .before .before in
-    rw (le-leb (past .before .before .before .args .n) 16 (past .before .if1 .taken), past .if2 .taken) (call .put-parties .ensures)
+    rw (le-leb (past .before .before .before .args .n) 16 (past .before .if1 .taken), past .if2 .taken) (call .put-whole .ensures)
 
 returns-2 : tie.Need-returns-2
 returns-2 c =

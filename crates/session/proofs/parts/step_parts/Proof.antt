@@ -1,5 +1,5 @@
 -- Past the two refusals a party that is not live leaves all as it is; what the act of a live one gives is put where the definition puts it.
-use Prim.Native.Nat.{ℕ, _-_}
+use Prim.Native.Nat.{ℕ, _-_, _<_}
 use mathlib.Core.Path.{_≡_, sym, ap, _∙_, subst}
 use mathlib.Core.Bool.{Bool, true, false, cond}
 use mathlib.Core.List.{List}
@@ -86,7 +86,7 @@ returns-2 c =
     let begun = start (passed .before .before) in
     let s = session begun in
     let i = begun .args .party in
-    let same = stays s i (le-ltb _ _ (c .if1 .taken)) in
+    let same = stays s i (le-ltb (partyOf (s .parties) i .status) 2 (omega (arith, c .if1 .taken))) in
     let r = answered s i (step s i) (placeActed s i) (known passed) in
     (same .0 ∙ r .0, ap (told 0) (same .1) ∙ r .1)
 
@@ -99,6 +99,9 @@ passes c = live c .before .before .before
 
 abbrev begins : tie.After-act-on-arg3 → tie.Start
 begins c = start (passes c .before .before)
+
+lives : (c : tie.After-act-on-arg3) → partyOf (session (begins c) .parties) (begins c .args .party) .status < 2
+lives c = omega (arith, live c .if1 .left)
 
 whole : (c : tie.After-act-on-arg3) → length (begins c .args .sheet .now) ≡ 1898
 whole c = search needs
@@ -126,7 +129,7 @@ act-on-requires c κs =
       least = k .least;
       most = omega (arith, k .most, k .parties);
       party = subst (λ (m : ℕ). PartyRule m (s .published) i (partyOf (s .parties) i)) (sym (k .parties)) (words .parties i (k .least) (k .most));
-      live = live c .if1 .left;
+      live = lives c;
     } in (
       front-fits (begins c .args .sheet .now) 1898 (len .result) (whole c) (len .ensures),
       subst (λ (l : List ℕ). Ready l (s .published) i (partyOf (s .parties) i) n) (sym (front c)) ready,
@@ -139,7 +142,7 @@ returns-3 : tie.Need-returns-3
 returns-3 c =
     let s = session (begins (c .before)) in
     let i = begins (c .before) .args .party in
-    let went = acts s i (lt-ltb _ _ (live (c .before) .if1 .left)) in
+    let went = acts s i (lt-ltb (partyOf (s .parties) i .status) 2 (lives (c .before))) in
     let r = answered s i (step s i) (placeActed s i) (known (passes (c .before))) in
     let put = puts s i _ _ _ (c .act-on .result) (front (c .before)) (c .act-on .ensures) in
     (put ∙ went .0 ∙ r .0, ap (told 0) (went .1) ∙ r .1)

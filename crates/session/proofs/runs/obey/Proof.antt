@@ -71,7 +71,7 @@ loop-again c =
     (λ w.
     going-stop (turn (c .before) .before .loop .inv) (turn (c .before) .loop-test .taken) _ _ _ (w .1 .left) (w .2 .result) (w .3)
     (w .2 .ensures) (w .4) (w .5))
-    (λ w. going-over (turn (c .before) .before .loop .inv) (turn (c .before) .loop-test .taken) _ _ _ (w .0 .left) (w .1) (w .2) (w .3)))
+    (λ w. going-over (turn (c .before) .before .loop .inv) (turn (c .before) .loop-test .taken) _ _ _ (omega (arith, w .0 .left)) (w .1) (w .2) (w .3)))
     (c .if1 .came)
 
 returns : tie.Need-returns Inv-loop μ-loop

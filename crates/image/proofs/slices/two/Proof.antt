@@ -1,0 +1,22 @@
+-- The sum of the two bytes by their weights is the number that the law reads them to.
+use native.Mathlib.Nat.{add-zero}
+use native.Mathlib.Omega.{arith}
+use borrow.Author.Needs.{needs}
+use denote.Ref.{now}
+use Rattle.sheet.proofs.Numbers.{num-read}
+use Rattle.image.proofs.slices.two.Statement.{statement}
+use Rattle.image.proofs.slices.two.Tie as tie
+
+returns : tie.Need-returns
+returns c =
+    let start = c .before .before .before .before .before in
+    rw (num-read (now (start .args .s)) (start .args .at) 2 (start .pre), add-zero) (omega arith)
+
+-- each byte is in the slice, and the product and the sum fit
+pub two-spec : {M : Type 1} → statement M
+two-spec =
+    tie.close
+    (tie.spec
+    (λ c. search needs) (λ c κs. search needs) (λ c. search needs)
+    (λ c. search needs) (λ c. search needs) (λ c κs. search needs) (λ c. search needs) (λ c. search needs)
+    returns)

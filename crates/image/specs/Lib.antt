@@ -1,0 +1,2 @@
+-- A session in bytes.
+pub mod Image

@@ -1,0 +1,69 @@
+// Parties in bytes, 11 each.
+ghost use mathlib.Core.Path.{_≡_};
+ghost use mathlib.Core.List.{_++_};
+ghost use Prim.Native.Nat.{_≤_};
+ghost use lib.ListN.{length, drop};
+ghost use Rattle.image.specs.Image.{partyBytes, partiesBytes, partyFrom, partiesFrom};
+use crate::slices;
+use state::Party;
+
+// The party of 11 bytes.
+fn party_from(s: &[u8]) -> Party
+    requires { ⌜ 11 ≤ length (now s) ⌝ }
+    ensures { λ r. ⌜ r ≡ partyFrom (now (s .entry)) ⌝ }
+{
+    Party {
+        status: s[0],
+        place: s[1],
+        round: s[2],
+        k: s[3],
+        candidate: s[4],
+        steps: slices::two(s, 5),
+        decision: slices::four(s, 7),
+    }
+}
+
+// A party's 11 bytes, at the start of what is lent.
+fn put_party(o: &mut [u8], p: Party)
+    requires { ⌜ 11 ≤ length (now o) ⌝ }
+    ensures { λ _. ⌜ now (o .exit) ≡ partyBytes p ++ drop 11 (now (o .entry)) ⌝ }
+{
+    o[0] = p.status;
+    o[1] = p.place;
+    o[2] = p.round;
+    o[3] = p.k;
+    o[4] = p.candidate;
+    o[5] = (p.steps / 256 % 256) as u8;
+    o[6] = (p.steps % 256) as u8;
+    o[7] = (p.decision / 16777216 % 256) as u8;
+    o[8] = (p.decision / 65536 % 256) as u8;
+    o[9] = (p.decision / 256 % 256) as u8;
+    o[10] = (p.decision % 256) as u8;
+}
+
+pub(crate) fn parties_from(s: &[u8]) -> [Party; 16]
+    requires { ⌜ 176 ≤ length (now s) ⌝ }
+    ensures { λ r. ⌜ r ≡ partiesFrom (now (s .entry)) ⌝ }
+{
+    let none = Party::fresh(0);
+    let mut parties = [none; 16];
+    let mut j = 0;
+    while j < 16 {
+        let at = 11 * j;
+        parties[j] = party_from(&s[at..]);
+        j += 1;
+    }
+    parties
+}
+
+pub(crate) fn put_parties(o: &mut [u8], parties: [Party; 16])
+    requires { ⌜ 176 ≤ length (now o) ⌝ }
+    ensures { λ _. ⌜ now (o .exit) ≡ partiesBytes parties ++ drop 176 (now (o .entry)) ⌝ }
+{
+    let mut j = 0;
+    while j < 16 {
+        let at = 11 * j;
+        put_party(&mut o[at..], parties[j]);
+        j += 1;
+    }
+}

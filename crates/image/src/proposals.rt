@@ -1,0 +1,64 @@
+// Proposals in bytes, 4 each.
+ghost use mathlib.Core.Path.{_≡_};
+ghost use mathlib.Core.List.{_++_};
+ghost use mathlib.Core.Logic.{_↔_};
+ghost use Prim.Native.Nat.{ℕ, _*_, _≤_};
+ghost use lib.ListN.{length, drop};
+ghost use Rattle.state.specs.Session.{filled};
+ghost use Rattle.image.specs.Image.{proposalsBytes, proposalsOf};
+use crate::slices;
+
+// The proposals that a slice holds, and zeros behind them.
+pub struct Proposals {
+    pub count: usize,
+    pub own: [u32; 16],
+}
+
+// How many proposals a slice of this length holds; 0, which is no number of parties, where it is of no sheet's.
+fn proposals_count(len: usize) -> usize
+    ensures { λ r. ⌜ (r ≤ 16) × (4 * r ≤ len) × ((n : ℕ) → 1 ≤ n → n ≤ 16 → (r ≡ n) ↔ (len ≡ 4 * n)) ⌝ }
+{
+    if 64 < len {
+        return 0;
+    }
+    if len % 4 != 0 {
+        return 0;
+    }
+    len / 4
+}
+
+// The proposals of n parties.
+pub(crate) fn own_from(s: &[u8], n: usize) -> [u32; 16]
+    requires { ⌜ (n ≤ 16) × (4 * n ≤ length (now s)) ⌝ }
+    ensures { λ r. ⌜ r ≡ filled 16 (proposalsOf n (now (s .entry))) ⌝ }
+{
+    let mut proposals = [0u32; 16];
+    let mut j = 0;
+    while j < n {
+        proposals[j] = slices::four(s, 4 * j);
+        j += 1;
+    }
+    proposals
+}
+
+// The proposals of a slice: as many as it holds, or none where it is of no sheet's length.
+pub fn proposals_from(s: &[u8]) -> Proposals
+    ensures { λ r. ⌜ (r .count ≤ 16) × (4 * r .count ≤ length (now (s .entry))) × ((n : ℕ) → 1 ≤ n → n ≤ 16 → (r .count ≡ n) ↔ (length (now (s .entry)) ≡ 4 * n)) ⌝ }
+    ensures { λ r. ⌜ r .own ≡ filled 16 (proposalsOf (r .count) (now (s .entry))) ⌝ }
+{
+    let count = proposals_count(s.len());
+    let own = own_from(s, count);
+    Proposals { count, own }
+}
+
+pub(crate) fn put_proposals(o: &mut [u8], proposals: [u32; 16])
+    requires { ⌜ 64 ≤ length (now o) ⌝ }
+    ensures { λ _. ⌜ now (o .exit) ≡ proposalsBytes proposals ++ drop 64 (now (o .entry)) ⌝ }
+{
+    let mut j = 0;
+    while j < 16 {
+        let at = 4 * j;
+        slices::put_four(&mut o[at..], proposals[j]);
+        j += 1;
+    }
+}
