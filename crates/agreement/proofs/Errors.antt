@@ -1,7 +1,8 @@
 -- Each changed rule has a schedule on which two parties decide differently, or a top fetches nothing: both sides compute.
 use mathlib.Core.Path.{_≡_, refl}
 use mathlib.Core.List.{[], _∷_}
-use Rattle.sheet.specs.Check.{answer, checkAnswer}
+use Rattle.answers.specs.Answers.{answer}
+use Rattle.sheet.specs.Check.{checkAnswer}
 use Rattle.builder.specs.Build.{builtSheet}
 use Rattle.state.specs.Session.{freshSession}
 use Rattle.state.specs.declared.kept.Session.{Session}

@@ -9,7 +9,7 @@ use lib.ListN.{length, getD, take, drop}
 use lib.Seq.{drop-append-add, getD-drop}
 use Rattle.sheet.specs.Lists.{flat, all}
 use Rattle.sheet.specs.Bytes.{num}
-use Rattle.sheet.specs.Check.{done}
+use Rattle.answers.specs.Answers.{done}
 use Rattle.sheet.proofs.FirstBad.{first-none}
 use Rattle.sheet.proofs.Numbers.{num-drop, num-bytes}
 use Rattle.state.specs.Session.{noParty, partyOf}

@@ -6,7 +6,8 @@ use lib.ListN.{length, getD}
 use lib.Dec.{T, eqb}
 use Rattle.sheet.specs.Lists.{all}
 use Rattle.sheet.specs.Bytes.{num}
-use Rattle.sheet.specs.Check.{checkAnswer, done}
+use Rattle.answers.specs.Answers.{done}
+use Rattle.sheet.specs.Check.{checkAnswer}
 use Rattle.builder.specs.Build.{builtSheet}
 use Rattle.builder.specs.Given.{Given}
 use Rattle.state.specs.Session.{freshSession, partyOf}

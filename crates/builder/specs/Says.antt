@@ -3,7 +3,8 @@ use Prim.Native.Nat.{ℕ}
 use mathlib.Core.Path.{_≡_}
 use lib.ListN.{length}
 use Rattle.sheet.specs.Rows.{layoutOf, sheetLength}
-use Rattle.sheet.specs.Check.{checkAnswer, done}
+use Rattle.answers.specs.Answers.{done}
+use Rattle.sheet.specs.Check.{checkAnswer}
 use Rattle.sheet.specs.Words.{IsSlot}
 use Rattle.sheet.specs.declared.rows.Slot.{Slot}
 use Rattle.builder.specs.Build.{built, builtRow, builtSheet}

@@ -4,12 +4,13 @@ ghost use mathlib.Core.List.{_++_};
 ghost use Prim.Native.Nat.{_+_, _*_, _^_, _≤_, _<_};
 ghost use lib.ListN.{length, take, drop};
 ghost use lib.Dec.{T};
-ghost use Rattle.sheet.specs.Rows.{nextSlot, rowCount, sheetLength, rowNumber};
+ghost use Rattle.sheet.specs.Rows.{sheetLength, rowNumber};
 ghost use Rattle.sheet.specs.Check.{numbersOk};
 ghost use Rattle.sheet.specs.Bytes.{bytesOf};
 ghost use Rattle.sheet.specs.Words.{IsSlot};
 ghost use Rattle.builder.specs.Build.{given, rowBytes, headerBytes, builtUnits, row2, rows1, builtRow, builtSheet};
 ghost use Rattle.builder.specs.Given.{Given};
+use sheet::rows;
 use sheet::rows::Row;
 use sheet::rows::Slot;
 
@@ -37,42 +38,6 @@ pub(crate) fn is_given(kind: u32, bound: u32, parties: u32) -> bool
         is_given1(bound, parties)
     } else {
         2 * parties - 1 <= bound
-    }
-}
-
-// The next three stand in `sheet` too: a function that has a `requires` is called in its own crate only.
-fn row_count(n: usize) -> usize
-    requires { ⌜ (1 ≤ n) × (n ≤ 255) ⌝ }
-    ensures { λ r. ⌜ r ≡ rowCount n ⌝ }
-{
-    n * (n + 1) / 2 - 1
-}
-
-// The length of a whole sheet.
-pub(crate) fn sheet_length(n: usize) -> usize
-    requires { ⌜ (1 ≤ n) × (n ≤ 255) ⌝ }
-    ensures { λ r. ⌜ r ≡ sheetLength n ⌝ }
-{
-    8 + 14 * row_count(n)
-}
-
-// The next row's: the round's next party, or after the top the next round's first.
-fn next_slot(p: Slot) -> Slot
-    requires { ⌜ p .round < 256 ⌝ }
-    ensures { λ r. ⌜ r ≡ nextSlot p ⌝ }
-{
-    let round = p.round;
-    let party = p.party;
-    if party < round {
-        Slot {
-            round,
-            party: party + 1,
-        }
-    } else {
-        Slot {
-            round: round + 1,
-            party: 1,
-        }
     }
 }
 
@@ -220,7 +185,7 @@ fn put_header(o: &mut [u8], kind: u32, bound: u32, parties: u32)
     requires { ⌜ (Given kind bound parties) × (8 ≤ length (now o)) ⌝ }
     ensures { λ _. ⌜ now (o .exit) ≡ headerBytes kind bound parties (builtUnits kind bound parties) ++ drop 8 (now (o .entry)) ⌝ }
 {
-    put_two(o, 0, sheet_length(parties as usize) as u16);
+    put_two(o, 0, rows::sheet_length(parties as u8) as u16);
     o[2] = 1;
     o[3] = kind as u8;
     o[4] = bound as u8;
@@ -234,14 +199,14 @@ pub(crate) fn put_sheet(out: &mut [u8], kind: u32, bound: u32, parties: u32)
     ensures { λ _. ⌜ now (out .exit) ≡ builtSheet kind bound parties ++ drop (sheetLength parties) (now (out .entry)) ⌝ }
 {
     put_header(out, kind, bound, parties);
-    let count = row_count(parties as usize);
+    let count = rows::row_count(parties as u8);
     let mut p = Slot::first();
     let mut k = 0;
     while k < count {
         let w = built_row(kind, bound, parties, p, k);
         let at = 8 + 14 * k;
         put_row(&mut out[at..], w);
-        p = next_slot(p);
+        p = p.next();
         k += 1;
     }
 }

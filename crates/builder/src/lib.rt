@@ -3,10 +3,11 @@ mod building;
 
 ghost use mathlib.Core.Path.{_≡_};
 ghost use lib.ListN.{length};
-ghost use Rattle.sheet.specs.Answers.{answerOf};
+ghost use Rattle.answers.specs.Answers.{answerOf};
 ghost use Rattle.builder.specs.Build.{buildAnswer, outAfter};
-use sheet::Refusal;
-use sheet::Verdict;
+use answers::Refusal;
+use answers::Verdict;
+use sheet::rows;
 
 // Writes the sheet for these numbers; bytes past it keep their content, and a refusal changes nothing.
 pub fn build(kind: u32, bound: u32, parties: u32, out: &mut [u8]) -> Verdict
@@ -19,7 +20,7 @@ pub fn build(kind: u32, bound: u32, parties: u32, out: &mut [u8]) -> Verdict
     if !building::is_given(kind, bound, parties) {
         return Verdict::Refused(Refusal::NoSheet);
     }
-    if out.len() < building::sheet_length(parties as usize) {
+    if out.len() < rows::sheet_length(parties as u8) {
         return Verdict::Refused(Refusal::Output);
     }
     building::put_sheet(out, kind, bound, parties);

@@ -11,7 +11,7 @@ use lib.Dec.{ltb, eqb, T}
 use lib.ListN.{length, getD, take, drop}
 use lib.Seq.{length-take-le}
 use Rattle.sheet.specs.Lists.{firstBad}
-use Rattle.sheet.specs.Check.{Answer, answer, done}
+use Rattle.answers.specs.Answers.{Answer, answer, done}
 use Rattle.sheet.proofs.Folds.{either, held, failed}
 use Rattle.sheet.proofs.FirstBad.{first-on, first-here}
 use Rattle.state.specs.Opening.{openAnswer}

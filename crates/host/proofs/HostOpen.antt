@@ -8,16 +8,15 @@ use borrow.Author.Tests.{eq-eqb, ne-eqb, le-leb}
 use lib.Dec.{eqb, leb}
 use lib.ListN.{length, getD, replicate}
 use Rattle.sheet.specs.Lists.{from}
-use Rattle.sheet.specs.Check.{Answer, answer, done}
-use Rattle.sheet.specs.Answers.{answerOf}
-use Rattle.sheet.specs.declared.answer.Refusal.{Refusal}
-use Rattle.sheet.specs.declared.answer.Verdict.{Verdict}
-use Rattle.sheet.specs.declared.answer.Verdict.the-variants.{Refused}
+use Rattle.answers.specs.Answers.{Answer, answer, done, answerOf}
+use Rattle.answers.specs.declared.Refusal.{Refusal}
+use Rattle.answers.specs.declared.Verdict.{Verdict}
+use Rattle.answers.specs.declared.Verdict.the-variants.{Refused}
 use Rattle.state.specs.Session.{freshParty, noParty, filled, freshSession, ofParts}
 use Rattle.state.specs.Opening.{openAnswer}
 use Rattle.state.specs.declared.kept.Party.{Party}
 use Rattle.state.specs.declared.kept.Session.{Session}
-use Rattle.state.proofs.Verdicts.{refused-number}
+use Rattle.answers.proofs.Verdicts.{refused-number}
 use Rattle.state.proofs.Filled.{fresh-taken, sheet-most}
 use Rattle.state.proofs.Openings.{opens-says}
 use Rattle.host.specs.Word.{answerWord}

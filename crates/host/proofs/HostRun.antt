@@ -8,7 +8,7 @@ use borrow.Author.Tests.{ne-eqb}
 use lib.Dec.{eqb}
 use lib.ListN.{length, getD}
 use Rattle.sheet.specs.Lists.{firstBad}
-use Rattle.sheet.specs.Check.{Answer}
+use Rattle.answers.specs.Answers.{Answer}
 use Rattle.state.specs.Opening.{openAnswer}
 use Rattle.session.specs.Run.{byteOk, runAnswer, runOut}
 use Rattle.image.specs.Image.{proposalsOf}

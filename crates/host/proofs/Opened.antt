@@ -11,7 +11,8 @@ use lib.Dec.{ltb, eqb}
 use lib.ListN.{length, getD}
 use Rattle.sheet.specs.Rows.{layoutOf}
 use Rattle.sheet.specs.Bytes.{num}
-use Rattle.sheet.specs.Check.{Answer, done, headerOk, lengthOk, checkAnswer}
+use Rattle.answers.specs.Answers.{Answer, done}
+use Rattle.sheet.specs.Check.{headerOk, lengthOk, checkAnswer}
 use Rattle.sheet.proofs.Folds.{held, failed}
 use Rattle.sheet.proofs.Says.{rows, writers}
 use Rattle.state.specs.Opening.{openAnswer}

@@ -11,7 +11,8 @@ use lib.ListN.{length, getD, List·getD-eq-default}
 use Rattle.sheet.specs.Lists.{flat}
 use Rattle.sheet.specs.Bytes.{num, bytesOf}
 use Rattle.sheet.specs.Rows.{slot, slots, sheetLength}
-use Rattle.sheet.specs.Check.{Answer, answer, done, checkAnswer}
+use Rattle.answers.specs.Answers.{Answer, answer, done}
+use Rattle.sheet.specs.Check.{checkAnswer}
 use Rattle.sheet.specs.declared.rows.Row.{Row}
 use Rattle.sheet.specs.declared.rows.Slot.{Slot}
 use Rattle.builder.specs.Build.{rowBytes, headerBytes, builtRow, builtUnits, builtSheet}

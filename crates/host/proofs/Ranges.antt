@@ -12,7 +12,8 @@ use lib.ListN.{length, getD, take, set}
 use lib.Seq.{length-take-le}
 use Rattle.sheet.specs.Lists.{from, firstBad}
 use Rattle.sheet.specs.Rows.{layoutOf, slot, slots, sheetLength}
-use Rattle.sheet.specs.Check.{Answer, answer, done, within, numbersOk, headerOk, lengthOk, checkAnswer}
+use Rattle.answers.specs.Answers.{Answer, answer, done}
+use Rattle.sheet.specs.Check.{within, numbersOk, headerOk, lengthOk, checkAnswer}
 use Rattle.sheet.specs.declared.rows.Slot.{Slot}
 use Rattle.builder.specs.Build.{given, buildAnswer}
 use Rattle.sheet.proofs.Folds.{held, lt-or-le}

@@ -6,7 +6,7 @@ use native.Mathlib.Omega.{arith}
 use lib.Dec.{T}
 use lib.ListN.{length, getD}
 use Rattle.sheet.specs.Lists.{all}
-use Rattle.sheet.specs.Check.{done}
+use Rattle.answers.specs.Answers.{done}
 use Rattle.builder.specs.Build.{builtSheet}
 use Rattle.state.specs.Session.{partyOf}
 use Rattle.state.specs.declared.kept.Session.{Session}

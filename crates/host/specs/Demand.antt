@@ -6,7 +6,8 @@ use mathlib.Core.Bool.{cond}
 use lib.ListN.{length, getD}
 use lib.Dec.{eqb}
 use Rattle.sheet.specs.Bytes.{num}
-use Rattle.sheet.specs.Check.{done, within}
+use Rattle.answers.specs.Answers.{done}
+use Rattle.sheet.specs.Check.{within}
 use Rattle.builder.specs.Build.{builtSheet}
 use Rattle.builder.specs.Given.{Given}
 use Rattle.session.specs.Reach.{stepLimit}

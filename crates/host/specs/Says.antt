@@ -5,7 +5,8 @@ use mathlib.Core.Logic.{_≢_}
 use mathlib.Core.List.{List}
 use lib.ListN.{length, getD, drop}
 use Rattle.sheet.specs.Rows.{sheetLength}
-use Rattle.sheet.specs.Check.{Answer, checkAnswer}
+use Rattle.answers.specs.Answers.{Answer}
+use Rattle.sheet.specs.Check.{checkAnswer}
 use Rattle.builder.specs.Build.{buildAnswer, outAfter}
 use Rattle.record.specs.Record.{recordLength}
 use Rattle.session.specs.Calls.{Told}

@@ -1,6 +1,6 @@
 -- One answer in one 64-bit word: bits 0 to 7 the number, bits 8 to 31 the value, bits 32 to 63 the position.
 use Prim.Native.Nat.{ℕ, _+_, _*_, _%_, _^_}
-use Rattle.sheet.specs.Check.{Answer}
+use Rattle.answers.specs.Answers.{Answer}
 use Rattle.session.specs.Calls.{Told}
 
 abbrev pub word : ℕ → ℕ → ℕ → ℕ

@@ -9,12 +9,12 @@ ghost use Rattle.builder.specs.Build.{buildAnswer, outAfter};
 ghost use Rattle.session.specs.Run.{runAnswer};
 ghost use Rattle.host.specs.Word.{answerWord, toldWord};
 ghost use Rattle.host.specs.Calls.{hostOpen, openBytes, hostStep, stepBytes, hostStop, stopBytes, hostLive, lastIndex, heard, hostRun, runBytes};
+use answers::Refusal;
+use answers::Verdict;
 use image::proposals;
 use session::parts;
 use session::reply::Reply;
 use session::runs;
-use sheet::Refusal;
-use sheet::Verdict;
 use state::opening;
 
 // Whether a sheet is accepted.
@@ -22,7 +22,7 @@ use state::opening;
 pub extern "C" fn sepalsail_check(sheet: &[u8]) -> u64
     ensures { λ w. ⌜ w ≡ answerWord (checkAnswer (now (sheet .entry))) ⌝ }
 {
-    words::verdict(sheet::check(sheet))
+    words::verdict(rules::check(sheet))
 }
 
 // Writes the sheet for these numbers; bytes past it keep their content, and a refusal changes nothing.

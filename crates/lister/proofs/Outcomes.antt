@@ -3,12 +3,11 @@ use mathlib.Core.Path.{_≡_, refl, sym, ap, _∙_}
 use mathlib.Core.List.{List}
 use Prim.Native.Nat.{ℕ}
 use lib.ListN.{length, getD}
-use Rattle.sheet.specs.Check.{Answer, answer, done}
-use Rattle.sheet.specs.Answers.{numberOf, positionOf, answerOf}
-use Rattle.sheet.specs.declared.answer.Refusal.{Refusal}
-use Rattle.sheet.specs.declared.answer.Verdict.{Verdict}
-use Rattle.sheet.specs.declared.answer.Verdict.the-variants.{Refused}
-use Rattle.state.proofs.Verdicts.{refused-number}
+use Rattle.answers.specs.Answers.{Answer, answer, done, numberOf, positionOf, answerOf}
+use Rattle.answers.specs.declared.Refusal.{Refusal}
+use Rattle.answers.specs.declared.Verdict.{Verdict}
+use Rattle.answers.specs.declared.Verdict.the-variants.{Refused}
+use Rattle.answers.proofs.Verdicts.{refused-number}
 use Rattle.lister.specs.Text.{listing, refusedText}
 use Rattle.lister.specs.Listed.{answered, recorded, listed}
 

@@ -4,7 +4,7 @@ use mathlib.Core.List.{List, [], _∷_}
 use mathlib.Core.Bool.{cond}
 use lib.ListN.{length, replicate}
 use lib.Dec.{eqb}
-use Rattle.sheet.specs.Check.{Answer}
+use Rattle.answers.specs.Answers.{Answer}
 use Rattle.builder.specs.Build.{builtSheet}
 use Rattle.record.specs.Record.{recordLength}
 use Rattle.session.specs.Run.{runAnswer, runOut}

@@ -5,8 +5,8 @@ ghost use Prim.Native.Nat.{_≤_};
 ghost use lib.ListN.{length, drop};
 ghost use Rattle.lister.specs.Listed.{listed};
 use crate::text;
+use answers::Verdict;
 use session::runs;
-use sheet::Verdict;
 
 // Runs a schedule, and puts the text at the front of out; bytes past it keep their content.
 pub(crate) fn list(schedule: &[u8], out: &mut [u8]) -> usize

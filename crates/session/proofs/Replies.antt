@@ -1,11 +1,11 @@
 -- Any two replies that a promise permits are equal: a value has one reply, a refusal's number and position have one case, and none has number 0.
 use mathlib.Core.Path.{_≡_, refl, sym, ap, _∙_}
 use native.Mathlib.Omega.{arith}
-use Rattle.sheet.specs.Answers.{answerOf}
-use Rattle.sheet.specs.declared.answer.Verdict.{Verdict}
-use Rattle.sheet.specs.declared.answer.Verdict.the-variants as Case
-use Rattle.sheet.proofs.Theorems.{one-answer}
-use Rattle.state.proofs.Verdicts.{refuses}
+use Rattle.answers.specs.Answers.{answerOf}
+use Rattle.answers.specs.declared.Verdict.{Verdict}
+use Rattle.answers.specs.declared.Verdict.the-variants as Case
+use Rattle.answers.proofs.Theorems.{one-answer}
+use Rattle.answers.proofs.Verdicts.{refuses}
 use Rattle.session.specs.Calls.{Told, toldOf}
 use Rattle.session.specs.declared.reply.Reply.{Reply}
 use Rattle.session.specs.declared.reply.Reply.the-variants.{Gave, Refused}

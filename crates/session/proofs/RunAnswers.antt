@@ -8,13 +8,12 @@ use borrow.Author.Tests.{lt-ltb, le-ltb, eq-eqb, ne-eqb}
 use lib.Dec.{ltb, eqb}
 use lib.ListN.{length, getD, drop}
 use Rattle.sheet.specs.Lists.{firstBad}
-use Rattle.sheet.specs.Check.{Answer, answer, done}
-use Rattle.sheet.specs.Answers.{answerOf}
-use Rattle.sheet.specs.declared.answer.Refusal.{Refusal}
-use Rattle.sheet.specs.declared.answer.Verdict.{Verdict}
-use Rattle.sheet.specs.declared.answer.Verdict.the-variants.{Refused}
+use Rattle.answers.specs.Answers.{Answer, answer, done, answerOf}
+use Rattle.answers.specs.declared.Refusal.{Refusal}
+use Rattle.answers.specs.declared.Verdict.{Verdict}
+use Rattle.answers.specs.declared.Verdict.the-variants.{Refused}
 use Rattle.state.specs.Opening.{openAnswer}
-use Rattle.state.proofs.Verdicts.{refused-number}
+use Rattle.answers.proofs.Verdicts.{refused-number}
 use Rattle.record.specs.Record.{recordLength, recordBytes}
 use Rattle.session.specs.Run.{byteOk, runAnswer, ran, runOut}
 

@@ -4,7 +4,7 @@ use mathlib.Core.Path.{_≡_}
 use mathlib.Core.List.{List, [], _∷_, _++_}
 use lib.ListN.{take, replicate}
 use Rattle.sheet.specs.Bytes.{bytesOf}
-use Rattle.sheet.specs.Check.{answer, done}
+use Rattle.answers.specs.Answers.{answer, done}
 use Rattle.builder.specs.Build.{builtSheet, buildAnswer}
 use Rattle.record.specs.Record.{recordLength, recordHead}
 use Rattle.session.specs.Run.{runAnswer, runOut}

@@ -14,7 +14,7 @@ ghost use Rattle.session.specs.Calls.{toldOf, unlessRefused, stepTold, s
 use crate::act;
 use crate::reply::Reply;
 use crate::reply::Turn;
-use sheet::Refusal;
+use answers::Refusal;
 use state::Party;
 use state::wellformed;
 

@@ -1,5 +1,5 @@
 // What the calls answer.
-use sheet::Refusal;
+use answers::Refusal;
 use state::Party;
 
 // What a call on a session answers: a place, a status or a live number, or why it was refused.

@@ -5,12 +5,12 @@ ghost use lib.ListN.{length, getD};
 ghost use lib.Dec.{T};
 ghost use Rattle.sheet.specs.Lists.{all, firstBad};
 ghost use Rattle.sheet.specs.Words.{Rules6};
-ghost use Rattle.sheet.specs.Answers.{answerOf};
+ghost use Rattle.answers.specs.Answers.{answerOf};
 ghost use Rattle.session.specs.Run.{byteOk, ran, runAnswer, runOut};
 use crate::act;
 use crate::parts;
-use sheet::Refusal;
-use sheet::Verdict;
+use answers::Refusal;
+use answers::Verdict;
 use state::Party;
 use state::opening;
 

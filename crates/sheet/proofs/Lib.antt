@@ -11,8 +11,6 @@ pub mod WriteSets
 pub mod TestWords
 pub mod RuleWords
 pub mod Says
-pub mod Ascending
-pub mod Quick
 pub mod Reader
 pub mod RowLoop
 pub mod Theorems

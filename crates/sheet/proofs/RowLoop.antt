@@ -8,14 +8,14 @@ use native.Mathlib.Omega.{arith}
 use lib.Dec.{T}
 use lib.ListN.{getD, drop}
 use Rattle.sheet.specs.Lists.{all, firstBad}
-use Rattle.sheet.specs.Rows.{slot, slots, nextSlot, rowCount, rowAt, rowNumber, layoutOf, taken}
+use Rattle.sheet.specs.Rows.{slot, slots, slotAfter, rowCount, rowAt, rowNumber, layoutOf, taken}
 use Rattle.sheet.specs.Words.{IsSlot, Rules4}
 use Rattle.sheet.specs.declared.rows.Slot.{Slot}
 use Rattle.sheet.specs.declared.rows.Taken.{Taken}
 use Rattle.sheet.proofs.Folds.{holds, fails}
 use Rattle.sheet.proofs.FirstBad.{first-on, first-here}
 use Rattle.sheet.proofs.Numbers.{taken-row}
-use Rattle.sheet.proofs.Slots.{AtRow, at-first, at-next, at-slot, count-most, slots-step, slots-end}
+use Rattle.sheet.proofs.Slots.{AtRow, after-next, at-first, at-next, at-slot, count-most, slots-step, slots-end}
 
 -- what a loop over the rows knows at place k, where the next row is p's
 pub record Going (s : List ℕ) (count k : ℕ) (p : Slot) : Type 0 where
@@ -46,7 +46,7 @@ module _ (s : List ℕ) (count k : ℕ) (p : Slot) (g : Going s count k p) where
     pub going-slot : IsSlot (getD s 5 0) p
     going-slot = at-slot (getD s 5 0) k p (g .at) here
 
-    pub going-round : p .round < 256
+    going-round : p .round ≤ 16
     going-round = let is = going-slot in let last = is .last in let most = g .rules .before .header .partiesMost in omega arith
 
     pub going-few : k < 135
@@ -65,8 +65,9 @@ module _ (s : List ℕ) (count k : ℕ) (p : Slot) (g : Going s count k p) where
     pub going-place : (t : Taken) → t ≡ taken s k → t .next ≡ k + 1
     going-place t e = ap (λ (x : Taken). x .next) (e ∙ read)
 
-    pub going-on : (j : ℕ) (q : Slot) → j ≡ k + 1 → q ≡ nextSlot p → Going s count j q
-    going-on j q a b = rw (a, b) (record { rules = g .rules; counted = g .counted; inside = omega arith; at = at-next k p (g .at) })
+    pub going-on : (j : ℕ) (q : Slot) → j ≡ k + 1 → q ≡ slotAfter p → Going s count j q
+    going-on j q a b =
+        rw (a, b ∙ after-next p going-round) (record { rules = g .rules; counted = g .counted; inside = omega arith; at = at-next k p (g .at) })
 
     -- the slots that are left
     pub going-left : drop k (slots (getD s 5 0)) ≡ p ∷ drop (k + 1) (slots (getD s 5 0))

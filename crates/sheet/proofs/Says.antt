@@ -1,17 +1,18 @@
 -- The answer is of the first rule that fails: where the rules before hold, their tests pass, and the answer is what the next test decides.
 use Prim.Native.Nat.{ℕ, zero, suc, _≤_, _<_}
 use mathlib.Core.Path.{_≡_, refl, sym, _∙_, subst}
-use mathlib.Core.Logic.{⊎-elim, _↔_}
+use mathlib.Core.Logic.{_⊎_, inl, inr, ⊎-elim, _↔_}
 use mathlib.Core.List.{List}
-use mathlib.Core.Bool.{Bool, not, cond}
+use mathlib.Core.Bool.{Bool, true, false, not, cond}
 use native.Mathlib.Nat.{lt-of-not-le}
-use borrow.Author.Tests.{lt-ltb, le-ltb, ne-eqb}
-use lib.Dec.{T, leb, eqb}
+use borrow.Author.Tests.{lt-ltb, le-ltb, ne-eqb, eqb-false}
+use lib.Dec.{T, leb, ltb, eqb}
 use lib.ListN.{length, getD}
+use Rattle.answers.specs.Answers.{Answer, answer, done}
 use Rattle.sheet.specs.Lists.{firstBad}
 use Rattle.sheet.specs.Rows.{Layout, layoutOf, slots}
 use Rattle.sheet.specs.Rules.{rowRule, writerRule}
-use Rattle.sheet.specs.Check.{Answer, answer, done, headerOk, lengthOk, unlessRow, checkRows, checkAnswer}
+use Rattle.sheet.specs.Check.{headerOk, lengthOk, unlessRow, unlessUnfit, checkAnswer}
 use Rattle.sheet.specs.Words.{IsSlot, RowRule, WriterRule, Every, FirstFailing, Rules1, Rules2, Rules3, Rules4, Rules5, Rules6}
 use Rattle.sheet.specs.Says.{CheckSays}
 use Rattle.sheet.specs.declared.rows.Slot.{Slot}
@@ -88,47 +89,52 @@ module _ (s : List ℕ) where
       failing-says (layoutOf s) (writerRule (layoutOf s)) WriterRule (writer-says (layoutOf s) h (r .rows)) k (h .partiesLeast)
 
   -- what the later rules decide
-  abbrev from-4 : Answer
-  from-4 = cond (not (lengthOk s)) (answer 4 0) (checkRows (layoutOf s))
+  module _ (after : Answer) where
+    abbrev from-4 : Answer
+    from-4 = cond (not (lengthOk s)) (answer 4 0) (unlessRow 5 rows after)
 
-  abbrev from-3 : Answer
-  from-3 = cond (not (headerOk (layoutOf s))) (answer 3 0) from-4
+    abbrev from-3 : Answer
+    from-3 = cond (not (headerOk (layoutOf s))) (answer 3 0) from-4
 
-  pub at-1 : (Rules1 s → ⊥) → checkAnswer s ≡ answer 1 0
-  at-1 n = let h : length s < 8 = lt-of-not-le (λ e. n (record { whole = e })) in rw (lt-ltb (length s) 8 h)
+    pub at-1 : (Rules1 s → ⊥) → unlessUnfit s after ≡ answer 1 0
+    at-1 n = let h : length s < 8 = lt-of-not-le (λ e. n (record { whole = e })) in rw (lt-ltb (length s) 8 h)
 
-  past-1 : Rules1 s → checkAnswer s ≡ cond (not (eqb (getD s 2 0) 1)) (answer 2 0) from-3
-  past-1 r = rw (le-ltb (length s) 8 (r .whole))
+    past-1 : Rules1 s → unlessUnfit s after ≡ cond (not (eqb (getD s 2 0) 1)) (answer 2 0) from-3
+    past-1 r = rw (le-ltb (length s) 8 (r .whole))
 
-  pub at-2 : Rules1 s → (Rules2 s → ⊥) → checkAnswer s ≡ answer 2 0
-  at-2 r n = past-1 r ∙ rw (fails (eqb (getD s 2 0) 1) (λ t. n (says-2 r .says .0 t)))
+    pub at-2 : Rules1 s → (Rules2 s → ⊥) → unlessUnfit s after ≡ answer 2 0
+    at-2 r n = past-1 r ∙ rw (fails (eqb (getD s 2 0) 1) (λ t. n (says-2 r .says .0 t)))
 
-  past-2 : Rules2 s → checkAnswer s ≡ from-3
-  past-2 r = past-1 (r .before) ∙ rw (holds (eqb (getD s 2 0) 1) (says-2 (r .before) .says .1 r))
+    past-2 : Rules2 s → unlessUnfit s after ≡ from-3
+    past-2 r = past-1 (r .before) ∙ rw (holds (eqb (getD s 2 0) 1) (says-2 (r .before) .says .1 r))
 
-  pub at-3 : Rules2 s → (Rules3 s → ⊥) → checkAnswer s ≡ answer 3 0
-  at-3 r n = past-2 r ∙ rw (fails (headerOk (layoutOf s)) (λ t. n (says-3 r .says .0 t)))
+    pub at-3 : Rules2 s → (Rules3 s → ⊥) → unlessUnfit s after ≡ answer 3 0
+    at-3 r n = past-2 r ∙ rw (fails (headerOk (layoutOf s)) (λ t. n (says-3 r .says .0 t)))
 
-  past-3 : Rules3 s → checkAnswer s ≡ from-4
-  past-3 r = past-2 (r .before) ∙ rw (holds (headerOk (layoutOf s)) (says-3 (r .before) .says .1 r))
+    past-3 : Rules3 s → unlessUnfit s after ≡ from-4
+    past-3 r = past-2 (r .before) ∙ rw (holds (headerOk (layoutOf s)) (says-3 (r .before) .says .1 r))
 
-  pub at-4 : Rules3 s → (Rules4 s → ⊥) → checkAnswer s ≡ answer 4 0
-  at-4 r n = past-3 r ∙ rw (fails (lengthOk s) (λ t. n (says-4 r .says .0 t)))
+    pub at-4 : Rules3 s → (Rules4 s → ⊥) → unlessUnfit s after ≡ answer 4 0
+    at-4 r n = past-3 r ∙ rw (fails (lengthOk s) (λ t. n (says-4 r .says .0 t)))
 
-  past-4 : Rules4 s → checkAnswer s ≡ checkRows (layoutOf s)
-  past-4 r = past-3 (r .before) ∙ rw (holds (lengthOk s) (says-4 (r .before) .says .1 r))
+    past-4 : Rules4 s → unlessUnfit s after ≡ unlessRow 5 rows after
+    past-4 r = past-3 (r .before) ∙ rw (holds (lengthOk s) (says-4 (r .before) .says .1 r))
 
-  pub at-5 : Rules4 s → (k : ℕ) → FirstFailing RowRule (layoutOf s) k → checkAnswer s ≡ answer 5 k
-  at-5 r k f = let (e, z) = fails-5 r k .1 f in past-4 r ∙ rw (e, ne-eqb k 0 z)
+    pub at-5 : Rules4 s → (k : ℕ) → FirstFailing RowRule (layoutOf s) k → unlessUnfit s after ≡ answer 5 k
+    at-5 r k f = let (e, z) = fails-5 r k .1 f in past-4 r ∙ rw (e, ne-eqb k 0 z)
 
-  past-5 : Rules5 s → checkAnswer s ≡ unlessRow 6 writers done
-  past-5 r = past-4 (r .before) ∙ rw (every-5 (r .before) .1 (r .rows))
+    pub past-5 : Rules5 s → unlessUnfit s after ≡ after
+    past-5 r = past-4 (r .before) ∙ rw (every-5 (r .before) .1 (r .rows))
+
+  -- what the writer rule decides
+  abbrev from-6 : Answer
+  from-6 = unlessRow 6 writers done
 
   pub at-6 : Rules5 s → (k : ℕ) → FirstFailing WriterRule (layoutOf s) k → checkAnswer s ≡ answer 6 k
-  at-6 r k f = let (e, z) = fails-6 r k .1 f in past-5 r ∙ rw (e, ne-eqb k 0 z)
+  at-6 r k f = let (e, z) = fails-6 r k .1 f in past-5 from-6 r ∙ rw (e, ne-eqb k 0 z)
 
   pub past-6 : Rules6 s → checkAnswer s ≡ done
-  past-6 r = past-5 (r .before) ∙ rw (every-6 (r .before) .1 (r .writers))
+  past-6 r = past-5 from-6 (r .before) ∙ rw (every-6 (r .before) .1 (r .writers))
 
   pub rows-of-none : Rules4 s → firstBad (rowRule (layoutOf s)) 1 (slots (layoutOf s .parties)) ≡ 0 → Rules5 s
   rows-of-none r e = record { before = r; rows = every-5 r .0 e }
@@ -148,48 +154,76 @@ module _ (s : List ℕ) where
   says : Answer → Type 0
   says a = Told s (a .number) (a .position)
 
-  told : says (checkAnswer s)
-  unfolding says
-  told = ⊎-elim past (λ n. put (at-1 s n) n) (decide (says-1 s))
-    where
-      put : {a : Answer} → checkAnswer s ≡ a → says a → says (checkAnswer s)
-      put e t = subst says (sym e) t
+  put : {a b : Answer} → a ≡ b → says b → says a
+  put e t = subst says (sym e) t
 
-      fifth : Rules5 s → says (checkAnswer s)
+  -- the rules but the writer rule hold, or one of their refusals is due, whatever comes after
+  fit-or : Rules5 s ⊎ ((after : Answer) → says (unlessUnfit s after))
+  unfolding says
+  fit-or = ⊎-elim second (λ n. inr (λ a. put (at-1 s a n) n)) (decide (says-1 s))
+    where
+      fifth : Rules4 s → Rules5 s ⊎ ((after : Answer) → says (unlessUnfit s after))
       fifth r =
           ⊎-elim
-          (λ e. let all : Rules6 s = record { before = r; writers = every-6 s r .0 e } in put (past-6 s all) all)
-          (λ n. let f = fails-6 s r (writers s) .0 (refl, n) in put (at-6 s r (writers s) f) (r, f))
-          (decide (eq-words (writers s) 0))
-
-      fourth : Rules4 s → says (checkAnswer s)
-      fourth r =
-          ⊎-elim
-          (λ e. fifth (rows-of-none s r e))
-          (λ n. let f = fails-5 s r (rows s) .0 (refl, n) in put (at-5 s r (rows s) f) (r, f))
+          (λ e. inl (rows-of-none s r e))
+          (λ n. let f = fails-5 s r (rows s) .0 (refl, n) in inr (λ a. put (at-5 s a r (rows s) f) (r, f)))
           (decide (eq-words (rows s) 0))
 
-      third : Rules3 s → says (checkAnswer s)
-      third r = ⊎-elim fourth (λ n. put (at-4 s r n) (r, n)) (decide (says-4 s r))
+      fourth : Rules3 s → Rules5 s ⊎ ((after : Answer) → says (unlessUnfit s after))
+      fourth r = ⊎-elim fifth (λ n. inr (λ a. put (at-4 s a r n) (r, n))) (decide (says-4 s r))
 
-      second : Rules2 s → says (checkAnswer s)
-      second r = ⊎-elim third (λ n. put (at-3 s r n) (r, n)) (decide (says-3 s r))
+      third : Rules2 s → Rules5 s ⊎ ((after : Answer) → says (unlessUnfit s after))
+      third r = ⊎-elim fourth (λ n. inr (λ a. put (at-3 s a r n) (r, n))) (decide (says-3 s r))
 
-      past : Rules1 s → says (checkAnswer s)
-      past r = ⊎-elim second (λ n. put (at-2 s r n) (r, n)) (decide (says-2 s r))
+      second : Rules1 s → Rules5 s ⊎ ((after : Answer) → says (unlessUnfit s after))
+      second r = ⊎-elim third (λ n. inr (λ a. put (at-2 s a r n) (r, n))) (decide (says-2 s r))
+
+  told : says (checkAnswer s)
+  unfolding says
+  told =
+      ⊎-elim
+      (λ r.
+      ⊎-elim
+      (λ e. let all : Rules6 s = record { before = r; writers = every-6 s r .0 e } in put (past-6 s all) all)
+      (λ n. let f = fails-6 s r (writers s) .0 (refl, n) in put (at-6 s r (writers s) f) (r, f))
+      (decide (eq-words (writers s) 0)))
+      (λ g. g (from-6 s))
+      fit-or
+
+  -- where none of the refusals 1 to 5 is due, those rules hold
+  pub fit-says : unlessUnfit s done ≡ done → Rules5 s
+  unfolding says
+  fit-says e = ⊎-elim (λ r. r) (λ g. let all : Rules6 s = subst says e (g done) in all .before) fit-or
 
 pub check-says : (s : List ℕ) → CheckSays s
 unfolding says
 check-says s =
     record {
       accepted = (tell, past-6 s);
-      one = (tell, at-1 s);
-      two = (tell, λ (r, n). at-2 s r n);
-      three = (tell, λ (r, n). at-3 s r n);
-      four = (tell, λ (r, n). at-4 s r n);
-      five = λ k. (tell, λ (r, f). at-5 s r k f);
+      one = (tell, at-1 s (from-6 s));
+      two = (tell, λ (r, n). at-2 s (from-6 s) r n);
+      three = (tell, λ (r, n). at-3 s (from-6 s) r n);
+      four = (tell, λ (r, n). at-4 s (from-6 s) r n);
+      five = λ k. (tell, λ (r, f). at-5 s (from-6 s) r k f);
       six = λ k. (tell, λ (r, f). at-6 s r k f);
     }
   where
     tell : {a : Answer} → checkAnswer s ≡ a → says s a
     tell e = subst (says s) e (told s)
+
+-- ---- a refusal of 1 to 5 stays, whatever comes after
+
+unfit-tests : (a b c d : Bool) (k : ℕ) (none : Bool) (after : Answer) → eqb k 0 ≡ none
+    → eqb (cond a (answer 1 0) (cond b (answer 2 0) (cond c (answer 3 0) (cond d (answer 4 0) (cond none done (answer 5 k))))) .number) 0 ≡ false
+    → cond a (answer 1 0) (cond b (answer 2 0) (cond c (answer 3 0) (cond d (answer 4 0) (cond none done (answer 5 k)))))
+    ≡ cond a (answer 1 0) (cond b (answer 2 0) (cond c (answer 3 0) (cond d (answer 4 0) (cond none after (answer 5 k)))))
+unfit-tests true b c d k none after e n = refl
+unfit-tests false true c d k none after e n = refl
+unfit-tests false false true d k none after e n = refl
+unfit-tests false false false true k none after e n = refl
+unfit-tests false false false false k false after e n = refl
+unfit-tests false false false false k true after e n = absurd (eqb-false 0 0 n refl)
+
+pub unfit-stays : (s : List ℕ) (after : Answer) → eqb (unlessUnfit s done .number) 0 ≡ false → unlessUnfit s done ≡ unlessUnfit s after
+unfit-stays s after =
+    unfit-tests (ltb (length s) 8) (not (eqb (getD s 2 0) 1)) (not (headerOk (layoutOf s))) (not (lengthOk s)) (rows s) (eqb (rows s) 0) after refl

@@ -7,12 +7,12 @@ use mathlib.Core.Bool.{Bool, true, false, cond}
 use native.Mathlib.Nat.{suc-mul, mul-suc, mul-comm, add-suc, eq-or-lt-of-le, le-refl, add-zero}
 use native.Mathlib.Numerals.{add-one}
 use native.Mathlib.Omega.{arith}
-use borrow.Author.Tests.{ltb-true, ltb-false}
+use borrow.Author.Tests.{ltb-true, ltb-false, le-leb}
 use lib.Dec.{T, ltb}
 use lib.ListN.{length, getD, drop, take, length-append, List·getD-append}
 use lib.Seq.{getD-append-add, drop-cons, drop-length, take-suc}
 use Rattle.sheet.specs.Lists.{from, all, flat}
-use Rattle.sheet.specs.Rows.{slot, slots, nextSlot, rowCount, rowNumber}
+use Rattle.sheet.specs.Rows.{slot, slots, nextSlot, slotAfter, rowCount, rowNumber}
 use Rattle.sheet.specs.Words.{IsSlot}
 use Rattle.sheet.specs.declared.rows.Slot.{Slot}
 use Rattle.sheet.proofs.Ranges.{length-range, range-at}
@@ -65,6 +65,10 @@ count-most n h = let e = count-tri n in let m = tri-mono (suc n) 17 (omega arith
 pub number-tri : (p : Slot) → rowNumber p ≡ tri (p .round) - 1 + p .party
 unfolding tri
 number-tri p = refl
+
+-- up to the last round there is a next row's slot
+pub after-next : (p : Slot) → p .round ≤ 16 → slotAfter p ≡ nextSlot p
+after-next p h = simp (le-leb (p .round) 16 h)
 
 -- ---- a row's place in the list of all rows
 

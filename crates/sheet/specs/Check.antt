@@ -4,21 +4,11 @@ use mathlib.Core.List.{List}
 use mathlib.Core.Bool.{Bool, not, _&&_, cond}
 use lib.ListN.{length, getD}
 use lib.Dec.{leb, ltb, eqb}
+use Rattle.answers.specs.Answers.{Answer, answer, done}
 use Rattle.sheet.specs.Lists.{firstBad}
 use Rattle.sheet.specs.Bytes.{num}
 use Rattle.sheet.specs.Rows.{Layout, layoutOf, slots, sheetLength}
 use Rattle.sheet.specs.Rules.{rowRule, writerRule}
-
--- a number and a position; number 0 is "done"
-pub record Answer : Type 0 where
-  pub number : ℕ
-  pub position : ℕ
-
-abbrev pub answer : ℕ → ℕ → Answer
-answer n k = record { number = n; position = k }
-
-abbrev pub done : Answer
-done = answer 0 0
 
 abbrev pub within : ℕ → ℕ → ℕ → Bool
 within lo hi x = leb lo x && leb x hi
@@ -39,13 +29,13 @@ lengthOk s = eqb (num s 0 2) (sheetLength (getD s 5 0)) && eqb (length s) (sheet
 abbrev pub unlessRow : ℕ → ℕ → Answer → Answer
 unlessRow n k after = cond (eqb k 0) after (answer n k)
 
-abbrev pub checkRows : Layout → Answer
-checkRows l =
-    unlessRow 5 (firstBad (rowRule l) 1 (slots (l .parties))) (unlessRow 6 (firstBad (writerRule l) 1 (slots (l .parties))) done)
-
-abbrev pub checkAnswer : List ℕ → Answer
-checkAnswer s =
+-- refusals 1 to 5, the first of them that is due, or what comes after where none is
+abbrev pub unlessUnfit : List ℕ → Answer → Answer
+unlessUnfit s after =
     cond (ltb (length s) 8) (answer 1 0)
     (cond (not (eqb (getD s 2 0) 1)) (answer 2 0)
     (cond (not (headerOk (layoutOf s))) (answer 3 0)
-    (cond (not (lengthOk s)) (answer 4 0) (checkRows (layoutOf s)))))
+    (cond (not (lengthOk s)) (answer 4 0) (unlessRow 5 (firstBad (rowRule (layoutOf s)) 1 (slots (layoutOf s .parties))) after))))
+
+abbrev pub checkAnswer : List ℕ → Answer
+checkAnswer s = unlessUnfit s (unlessRow 6 (firstBad (writerRule (layoutOf s)) 1 (slots (layoutOf s .parties))) done)

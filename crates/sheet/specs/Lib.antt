@@ -6,7 +6,5 @@ pub mod Length
 pub mod Rows
 pub mod Rules
 pub mod Check
-pub mod Answers
 pub mod Words
-pub mod Quick
 pub mod Says

@@ -2,7 +2,7 @@
 ghost use mathlib.Core.Path.{_≡_};
 ghost use Prim.Native.Nat.{_+_, _<_, _≤_};
 ghost use lib.ListN.{length, drop};
-ghost use Rattle.sheet.specs.Rows.{slot, nextSlot, rowCount, sheetLength, rowFrom, taken, rowPlace, rowOf};
+ghost use Rattle.sheet.specs.Rows.{slot, slotAfter, rowCount, sheetLength, rowFrom, taken, rowPlace, rowOf};
 use crate::bytes;
 
 pub struct Row {
@@ -38,13 +38,15 @@ impl Slot {
         Slot { round: 2, party: 1 }
     }
 
-    // The next row's: the round's next party, or after the top the next round's first.
-    pub(crate) fn next(self) -> Self
-        requires { ⌜ self .round < 256 ⌝ }
-        ensures { λ r. ⌜ r ≡ nextSlot self ⌝ }
+    // The next row's: the round's next party, or after the top the next round's first; past round 16 the same.
+    pub fn next(self) -> Self
+        ensures { λ r. ⌜ r ≡ slotAfter self ⌝ }
     {
         let round = self.round;
         let party = self.party;
+        if 16 < round {
+            return self;
+        }
         if party < round {
             Slot {
                 round,
@@ -59,16 +61,20 @@ impl Slot {
     }
 }
 
-pub(crate) fn row_count(n: usize) -> usize
-    requires { ⌜ (1 ≤ n) × (n ≤ 255) ⌝ }
+// How many rows a sheet of n parties has.
+pub fn row_count(n: u8) -> usize
     ensures { λ r. ⌜ r ≡ rowCount n ⌝ }
+    ensures { λ r. ⌜ r < 32768 ⌝ }
 {
-    n * (n + 1) / 2 - 1
+    if n == 0 {
+        return 0;
+    }
+    let m = bytes::size(n);
+    m * (m + 1) / 2 - 1
 }
 
 // The length of a whole sheet.
-pub(crate) fn sheet_length(n: usize) -> usize
-    requires { ⌜ (1 ≤ n) × (n ≤ 255) ⌝ }
+pub fn sheet_length(n: u8) -> usize
     ensures { λ r. ⌜ r ≡ sheetLength n ⌝ }
 {
     8 + 14 * row_count(n)

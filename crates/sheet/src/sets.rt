@@ -5,7 +5,7 @@ ghost use Rattle.sheet.specs.Sets.{inSet, sizeVarying, inconsecutive, le
 ghost use Rattle.sheet.specs.Length.{bitLength};
 
 // Whether a unit is in the set.
-pub(crate) fn has(start: u16, mask: u64, unit: u16) -> bool
+pub fn has(start: u16, mask: u64, unit: u16) -> bool
     ensures { λ r. ⌜ r ≡ inSet start mask unit ⌝ }
 {
     if unit < start {
@@ -27,7 +27,7 @@ fn ones(b: u64) -> u64
 }
 
 // How many bits the mask takes, up to its highest.
-pub(crate) fn bits(mask: u64) -> u64
+pub fn bits(mask: u64) -> u64
     ensures { λ r. ⌜ r ≡ bitLength mask ⌝ }
     ensures { λ r. ⌜ r ≤ 64 ⌝ }
 {
@@ -96,7 +96,7 @@ fn clear_of_later(mask: u64, d: u16, later: u64) -> bool
 }
 
 // Whether two sets share no unit.
-pub(crate) fn are_apart(start: u16, mask: u64, start2: u16, mask2: u64) -> bool
+pub fn are_apart(start: u16, mask: u64, start2: u16, mask2: u64) -> bool
     ensures { λ r. ⌜ r ≡ apart start mask start2 mask2 ⌝ }
 {
     if start <= start2 {

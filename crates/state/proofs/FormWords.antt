@@ -7,7 +7,8 @@ use mathlib.Core.Bool.{Bool, true, false, not, cond}
 use native.Mathlib.Omega.{arith}
 use lib.Dec.{T, eqb, ltb}
 use lib.ListN.{length, getD}
-use Rattle.sheet.specs.Check.{Answer, answer, done, headerOk, lengthOk, checkAnswer}
+use Rattle.answers.specs.Answers.{Answer, answer, done}
+use Rattle.sheet.specs.Check.{headerOk, lengthOk, checkAnswer}
 use Rattle.sheet.specs.Rows.{layoutOf}
 use Rattle.sheet.specs.Words.{Rules6}
 use Rattle.sheet.proofs.Folds.{lt-or-le}

@@ -6,5 +6,4 @@ pub mod Carried
 pub mod FormWords
 pub mod Filled
 pub mod Copies
-pub mod Verdicts
 pub mod Openings

@@ -8,7 +8,8 @@ use native.Mathlib.Omega.{arith}
 use borrow.Author.Tests.{eq-eqb, ne-eqb, eqb-true, eqb-false}
 use lib.Dec.{T, eqb}
 use lib.ListN.{length, getD}
-use Rattle.sheet.specs.Check.{Answer, answer, done, checkAnswer}
+use Rattle.answers.specs.Answers.{Answer, answer, done}
+use Rattle.sheet.specs.Check.{checkAnswer}
 use Rattle.sheet.specs.Words.{Rules6}
 use Rattle.state.specs.Session.{freshSession}
 use Rattle.state.specs.Opening.{openAnswer, opened}

@@ -4,7 +4,8 @@ use mathlib.Core.List.{List, []}
 use mathlib.Core.Bool.{cond}
 use lib.ListN.{length, getD}
 use lib.Dec.{eqb}
-use Rattle.sheet.specs.Check.{Answer, answer, done, checkAnswer}
+use Rattle.answers.specs.Answers.{Answer, answer, done}
+use Rattle.sheet.specs.Check.{checkAnswer}
 use Rattle.state.specs.Session.{freshSession}
 use Rattle.state.specs.declared.kept.Session.{Session}
 

@@ -4,13 +4,13 @@ ghost use mathlib.Core.List.{_++_, map};
 ghost use Prim.Native.Nat.{_-_, _≤_, min};
 ghost use lib.ListN.{length, take, replicate};
 ghost use Rattle.sheet.specs.Lists.{from};
-ghost use Rattle.sheet.specs.Answers.{answerOf};
+ghost use Rattle.answers.specs.Answers.{answerOf};
 ghost use Rattle.state.specs.Session.{freshParty, noParty, filled, freshSession};
 ghost use Rattle.state.specs.Opening.{openAnswer, opened};
 use crate::kept::Party;
 use crate::kept::Session;
-use sheet::Refusal;
-use sheet::Verdict;
+use answers::Refusal;
+use answers::Verdict;
 
 // A session that was opened, or why it was not.
 pub struct Opened {
@@ -101,7 +101,7 @@ fn blank_session() -> Session
 pub fn opens(sheet: &[u8], proposals: &[u32]) -> Verdict
     ensures { λ r. ⌜ answerOf r ≡ openAnswer (now (sheet .entry)) (now (proposals .entry)) ⌝ }
 {
-    let verdict = sheet::check(sheet);
+    let verdict = rules::check(sheet);
     if let Verdict::Refused(_) = verdict {
         return verdict;
     }

@@ -11,7 +11,7 @@ ghost use Rattle.state.specs.Session.{cell, ofParts};
 ghost use Rattle.state.specs.WellFormed.{carriedOk, marksOk, isLower, publishedOk, proposalsOk, same, roundOk, scanOk, lowerOk, topOk, idleOk, unstartedOk, decisionOk, statusOk, rangesOk, partyOk, unusedOk, partiesOk, wellFormed};
 use crate::kept::Party;
 use crate::kept::Session;
-use sheet::Verdict;
+use answers::Verdict;
 
 fn size(x: u8) -> usize
     ensures { λ r. ⌜ r ≡ x ⌝ }
@@ -41,7 +41,7 @@ fn is_accepted(s: &[u8], len: usize) -> bool
     requires { ⌜ len ≤ length (now s) ⌝ }
     ensures { λ r. ⌜ r ≡ eqb (checkAnswer (take len (now (s .entry))) .number) 0 ⌝ }
 {
-    match sheet::check(&s[..len]) {
+    match rules::check(&s[..len]) {
         Verdict::Done => true,
         Verdict::Refused(_) => false,
     }

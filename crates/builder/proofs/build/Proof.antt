@@ -46,8 +46,8 @@ passed c = (
 there : (c : tie.Else2) → Given (entry c .args .kind) (entry c .args .bound) (entry c .args .parties)
 there c = record { numbers = held _ (passed c .0); sheet = held _ (passed c .1) }
 
-sheet-length-requires : tie.Need-sheet-length-requires
-sheet-length-requires c κs = let r = given-ranges (there c) in (r .partiesLeast, omega arith)
+cast-sheet-length : tie.Need-cast-sheet-length
+cast-sheet-length c = omega (arith, given-ranges (there c))
 
 returns-3 : tie.Need-returns-3
 returns-3 c =
@@ -77,7 +77,8 @@ build-spec =
     returns
     is-given-requires
     returns-2
-    sheet-length-requires
+    cast-sheet-length
+    (λ c κs. search needs)
     returns-3
     put-sheet-requires
     same-length

@@ -1,7 +1,7 @@
 -- The word is that of the answer which `sheet::check` promises.
 use borrow.Author.Needs.{needs}
 use mathlib.Core.Path.{ap, _∙_}
-use Rattle.sheet.specs.Check.{Answer}
+use Rattle.answers.specs.Answers.{Answer}
 use Rattle.host.specs.Word.{word}
 use Rattle.host.proofs.sepalsail_check.Statement.{statement}
 use Rattle.host.proofs.sepalsail_check.Tie as tie

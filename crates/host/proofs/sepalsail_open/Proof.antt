@@ -5,8 +5,7 @@ use mathlib.Core.List.{List}
 use native.Mathlib.Omega.{arith}
 use borrow.Author.Needs.{needs}
 use lib.ListN.{take}
-use Rattle.sheet.specs.Check.{done}
-use Rattle.sheet.specs.Answers.{answerOf}
+use Rattle.answers.specs.Answers.{done, answerOf}
 use Rattle.state.specs.Opening.{openAnswer}
 use Rattle.state.proofs.Openings.{opens-says}
 use Rattle.image.specs.Image.{proposalsOf}

@@ -7,7 +7,7 @@ use native.Mathlib.Omega.{arith}
 use borrow.Author.Needs.{needs}
 use lib.Dec.{eqb}
 use lib.ListN.{length, take}
-use Rattle.sheet.specs.Check.{Answer}
+use Rattle.answers.specs.Answers.{Answer}
 use Rattle.session.specs.Run.{runAnswer, runOut}
 use Rattle.host.specs.Word.{answerWord}
 use Rattle.image.specs.Image.{proposalsOf}

@@ -5,7 +5,7 @@ use mathlib.Core.List.{List}
 use native.Mathlib.Omega.{arith}
 use borrow.Author.Needs.{needs}
 use Rattle.state.specs.declared.kept.Session.{Session}
-use Rattle.state.proofs.Verdicts.{refuses}
+use Rattle.answers.proofs.Verdicts.{refuses}
 use Rattle.session.specs.Calls.{Told, toldOf, stopTold, stopped}
 use Rattle.session.specs.declared.reply.Reply.{Reply}
 use Rattle.image.specs.Image.{Below}

@@ -30,8 +30,8 @@ three-parts whole kind bound n units o a c h e f =
 abbrev entry : tie.After-slice-known2 → tie.Start
 entry c = c .before .before .before .before .before .before
 
-sheet-length-requires : tie.Need-sheet-length-requires
-sheet-length-requires c κs = let r = given-ranges (c .before .before .pre .0) in (r .partiesLeast, omega arith)
+cast-sheet-length : tie.Need-cast-sheet-length
+cast-sheet-length c = omega (arith, given-ranges (c .before .before .pre .0))
 
 cast-put-two : tie.Need-cast-put-two
 cast-put-two c =
@@ -84,7 +84,7 @@ pub put-header-spec : {M : Type 1} → statement M
 put-header-spec =
     tie.close
     (tie.spec
-    sheet-length-requires cast-put-two (λ c κs. search needs)
+    cast-sheet-length (λ c κs. search needs) cast-put-two (λ c κs. search needs)
     (λ c. search needs)
     cast-o slice-write-o-2
     cast-o-2 slice-write-o-3

@@ -7,7 +7,7 @@ use lib.ListN.{length, drop, length-take, length-drop}
 use borrow.Author.Needs.{needs}
 use Rattle.sheet.specs.Rows.{rowCount}
 use Rattle.sheet.specs.Words.{IsSlot}
-use Rattle.sheet.proofs.Slots.{AtRow, at-first, at-next, at-slot}
+use Rattle.sheet.proofs.Slots.{AtRow, after-next, at-first, at-next, at-slot}
 use Rattle.builder.proofs.Givens.{given-ranges}
 use Rattle.builder.proofs.Written.{written, opening, turn, closing}
 use Rattle.builder.proofs.building.put_sheet.Statement.{statement}
@@ -23,8 +23,8 @@ abbrev μ-loop : tie.MeasureT-loop
 put-header-requires : tie.Need-put-header-requires Inv-loop μ-loop
 put-header-requires c κs = (c .before .before .pre .0, search needs)
 
-row-count-requires : tie.Need-row-count-requires Inv-loop μ-loop
-row-count-requires c κs = let r = given-ranges (c .before .before .before .before .before .pre .0) in (r .partiesLeast, omega arith)
+cast-row-count : tie.Need-cast-row-count Inv-loop μ-loop
+cast-row-count c = omega (arith, given-ranges (c .before .before .before .before .before .pre .0))
 
 first-requires : tie.Need-first-requires Inv-loop μ-loop
 first-requires c κs = search needs
@@ -68,13 +68,6 @@ part-put-row-end c = search needs
 put-row-requires : tie.Need-put-row-requires Inv-loop μ-loop
 put-row-requires c κs = simp (length-take, length-drop) (omega arith)
 
-next-slot-requires : tie.Need-next-slot-requires Inv-loop μ-loop
-next-slot-requires c κs =
-    let turn = c .before .before .before .before .before in
-    let s = row-of turn in
-    let r = given-ranges (entry turn .pre .0) in
-    omega arith
-
 add-k : tie.Need-add-k Inv-loop μ-loop
 add-k c = search needs
 
@@ -90,7 +83,7 @@ loop-again c =
     let args = entry in-loop .args in
     let row = call .before .before .built-row in
     let r = given-ranges (entry in-loop .pre .0) in (
-      rw (c .next-slot .ensures) (at-next (l .k) (l .p) (l .inv .0)),
+      rw (c .next .ensures ∙ after-next (l .p) (let last = row-of in-loop .last in omega arith)) (at-next (l .k) (l .p) (l .inv .0)),
       omega arith,
       omega (arith, c .before .before .out2 .given .1),
       turn (args .kind) (args .bound) (args .parties) (l .k) (l .p) (row .result) (head .put-header .last .0) (l .out) (call .put-row .last .0)
@@ -117,7 +110,8 @@ put-sheet-spec =
     Inv-loop
     μ-loop
     put-header-requires
-    row-count-requires
+    cast-row-count
+    (λ c κs. search needs)
     first-requires
     loop-holds
     built-row-requires
@@ -127,7 +121,7 @@ put-sheet-spec =
     part-put-row-start
     part-put-row-end
     put-row-requires
-    next-slot-requires
+    (λ c κs. search needs)
     add-k
     loop-less
     loop-again

@@ -2,8 +2,8 @@
 use borrow.Author.Needs.{needs}
 use mathlib.Core.Path.{sym, ap, _∙_}
 use Prim.Native.Nat.{ℕ}
-use Rattle.sheet.specs.Answers.{answerOf}
-use Rattle.sheet.specs.declared.answer.Verdict.{Verdict}
+use Rattle.answers.specs.Answers.{answerOf}
+use Rattle.answers.specs.declared.Verdict.{Verdict}
 use Rattle.host.specs.Word.{word}
 use Rattle.host.proofs.words.verdict.Statement.{statement}
 use Rattle.host.proofs.words.verdict.Tie as tie

@@ -5,8 +5,7 @@ use mathlib.Core.List.{List}
 use native.Mathlib.Omega.{arith}
 use borrow.Author.Needs.{needs}
 use lib.ListN.{length, getD}
-use Rattle.sheet.specs.Check.{done}
-use Rattle.sheet.specs.Answers.{answerOf}
+use Rattle.answers.specs.Answers.{done, answerOf}
 use Rattle.lister.specs.Text.{listing, refusedText}
 use Rattle.lister.specs.Listed.{answered, recorded, listed}
 use Rattle.lister.proofs.Outcomes.{two-parties, listed-done, listed-refused}

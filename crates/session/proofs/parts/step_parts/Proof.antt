@@ -14,7 +14,7 @@ use Rattle.state.specs.declared.kept.Party.{Party}
 use Rattle.state.specs.declared.kept.Session.{Session}
 use Rattle.state.proofs.Carried.{front-fits, front-carried}
 use Rattle.state.proofs.FormWords.{well-formed-says}
-use Rattle.state.proofs.Verdicts.{refuses}
+use Rattle.answers.proofs.Verdicts.{refuses}
 use Rattle.session.specs.Step.{Place, isLive, placeOf, counted, partyAfter, marksAfter, publishedAfter, acted, step, placeActed}
 use Rattle.session.specs.Ready.{Ready}
 use Rattle.session.specs.Calls.{told, toldOf}

@@ -8,7 +8,7 @@ use lib.Seq.{getD-set-same}
 use Rattle.state.specs.Session.{ofParts, noParty, partyOf}
 use Rattle.state.specs.declared.kept.Party.{Party}
 use Rattle.state.specs.declared.kept.Session.{Session}
-use Rattle.state.proofs.Verdicts.{refuses}
+use Rattle.answers.proofs.Verdicts.{refuses}
 use Rattle.session.specs.Step.{stoppedParty, stop}
 use Rattle.session.specs.Calls.{told, toldOf}
 use Rattle.session.proofs.Refusals.{Past, past, refused, answered}

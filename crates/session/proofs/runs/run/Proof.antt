@@ -8,12 +8,11 @@ use borrow.Author.Needs.{needs}
 use borrow.Author.Tests.{not-true, not-false}
 use lib.Dec.{T}
 use lib.ListN.{length, getD, drop}
-use Rattle.sheet.specs.Check.{answer, done}
+use Rattle.answers.specs.Answers.{answer, done, answerOf}
 use Rattle.sheet.specs.Lists.{all, firstBad}
-use Rattle.sheet.specs.Answers.{answerOf}
 use Rattle.sheet.specs.Words.{Rules6}
-use Rattle.sheet.specs.declared.answer.Refusal.the-variants.{Schedule, Output}
-use Rattle.sheet.specs.declared.answer.Verdict.the-variants.{Refused}
+use Rattle.answers.specs.declared.Refusal.the-variants.{Schedule, Output}
+use Rattle.answers.specs.declared.Verdict.the-variants.{Refused}
 use Rattle.sheet.proofs.Folds.{held, failed}
 use Rattle.sheet.proofs.FirstBad.{first-none, none-first}
 use Rattle.state.specs.Opening.{openAnswer}

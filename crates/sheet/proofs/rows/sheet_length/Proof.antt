@@ -1,15 +1,12 @@
--- The number of rows is below 255 · 256, so that the length fits.
-use native.Mathlib.Omega.{arith}
+-- The number of rows is below 32,768, so that the length fits.
+use mathlib.Core.Path.{ap}
+use Prim.Native.Nat.{ℕ, _+_, _*_}
 use borrow.Author.Needs.{needs}
-use Rattle.sheet.proofs.Numbers.{most}
 use Rattle.sheet.proofs.rows.sheet_length.Statement.{statement}
 use Rattle.sheet.proofs.rows.sheet_length.Tie as tie
 
-mul-result : tie.Need-mul-result
-mul-result c = omega (arith, most (c .before .args .n) (c .before .pre .1))
-
-add-result : tie.Need-add-result
-add-result c = omega (arith, most (c .before .args .n) (c .before .pre .1))
+returns : tie.Need-returns
+returns c = ap (λ (k : ℕ). 8 + 14 * k) (c .row-count .ensures .0)
 
 pub sheet-length-spec : {M : Type 1} → statement M
-sheet-length-spec = tie.close (tie.spec (λ c κs. search needs) mul-result add-result (λ c. search needs))
+sheet-length-spec = tie.close (tie.spec (λ c κs. search needs) (λ c. search needs) (λ c. search needs) returns)

@@ -1,15 +1,15 @@
 -- So far no row failed, and the test of the row that is read is the row rule of its slot.
 use Prim.Native.Nat.{_-_}
-use mathlib.Core.Path.{_≡_, refl, sym, ap, _∙_}
+use mathlib.Core.Path.{_≡_, refl, sym, _∙_}
 use native.Mathlib.Omega.{arith}
 use borrow.Author.Needs.{needs}
 use borrow.Author.Tests.{not-true, not-false}
 use lib.ListN.{getD}
 use Rattle.sheet.specs.Bytes.{num}
-use Rattle.sheet.specs.Rows.{isTop, layoutOf, rowCount}
+use Rattle.sheet.specs.Rows.{isTop, layoutOf}
 use Rattle.sheet.specs.Rules.{rowFits, rowRule}
 use Rattle.sheet.proofs.Folds.{held, failed}
-use Rattle.sheet.proofs.RowLoop.{Going, Passed, going-first, going-round, going-row, going-place, going-on, passed-on, passed-here, passed-end}
+use Rattle.sheet.proofs.RowLoop.{Going, Passed, going-first, going-row, going-place, going-on, passed-on, passed-here, passed-end}
 use Rattle.sheet.proofs.rules.first_bad_row.Statement.{statement}
 use Rattle.sheet.proofs.rules.first_bad_row.Tie as tie
 
@@ -22,32 +22,29 @@ abbrev μ-loop : tie.MeasureT-loop
 
 -- what the call of `row_fits` says is the row rule of p's row
 kept : (c : tie.After-row-fits Inv-loop μ-loop)
-    → c .row-fits .result ≡ rowRule (layoutOf (c .before .before .before .before .before .before .before .before .before .before .before .before .before .before .before .args .s .now)) (c .before .before .before .before .before .loop .p)
+    → c .row-fits .result ≡ rowRule (layoutOf (c .before .before .before .before .before .before .before .before .before .before .before .before .before .before .args .s .now)) (c .before .before .before .before .before .loop .p)
 kept c =
-    let s = c .before .before .before .before .before .before .before .before .before .before .before .before .before .before .before .args .s .now in
+    let s = c .before .before .before .before .before .before .before .before .before .before .before .before .before .before .args .s .now in
     let l = c .before .before .before .before .before .loop in
     let row = going-row s _ (l .k) (l .p) (l .inv .0) (c .before .before .before .before .loop-test .taken) (c .before .before .before .row-after .result) (c .before .before .before .row-after .ensures) in
     c .row-fits .ensures ∙ (λ i. rowFits (getD s 3 0) (l .inv .2 i) (l .inv .3 i) (isTop (l .p)) (row i))
 
 loop-holds : tie.Need-loop-holds Inv-loop μ-loop
 loop-holds c =
-    let s = c .before .before .before .before .before .before .before .before .before .args .s .now in (
-      going-first s _ _ (c .before .before .before .before .before .before .before .before .before .pre) (c .before .before .row-count .ensures ∙ ap rowCount (c .before .before .before .size .ensures .0)) (c .first .ensures),
+    let s = c .before .before .before .before .before .before .before .before .args .s .now in (
+      going-first s _ _ (c .before .before .before .before .before .before .before .before .pre) (c .before .before .row-count .ensures .0) (c .first .ensures),
       refl,
-      c .before .before .before .before .before .wide .ensures .0,
+      c .before .before .before .before .wide .ensures .0,
       c .before .two .ensures,
       refl,
     )
 
 returns : tie.Need-returns Inv-loop μ-loop
 returns c =
-    let s = c .before .before .before .before .before .before .before .before .before .before .before .before .before .before .before .before .args .s .now in
+    let s = c .before .before .before .before .before .before .before .before .before .before .before .before .before .before .before .args .s .now in
     let l = c .before .before .before .before .before .before .loop in
     sym (passed-here s _ (l .k) (l .p) (l .inv .0) (rowRule (layoutOf s)) (l .inv .4) (c .before .before .before .before .before .loop-test .taken)
     (failed _ (sym (kept (c .before)) ∙ not-true _ (c .if1 .taken))))
-
-next-requires : tie.Need-next-requires Inv-loop μ-loop
-next-requires c κs = let l = c .before .before .before .before .before .before .loop in going-round _ _ (l .k) (l .p) (l .inv .0) (c .before .before .before .before .before .loop-test .taken)
 
 loop-less : tie.Need-loop-less Inv-loop μ-loop
 loop-less c =
@@ -58,7 +55,7 @@ loop-less c =
 
 loop-again : tie.Need-loop-again Inv-loop μ-loop
 loop-again c =
-    let s = c .before .before .before .before .before .before .before .before .before .before .before .before .before .before .before .before .before .args .s .now in
+    let s = c .before .before .before .before .before .before .before .before .before .before .before .before .before .before .before .before .args .s .now in
     let l = c .before .before .before .before .before .before .before .loop in
     let more = c .before .before .before .before .before .before .loop-test .taken in
     let place = going-place s _ (l .k) (l .p) (l .inv .0) more (c .before .before .before .before .before .row-after .result) (c .before .before .before .before .before .row-after .ensures) in (
@@ -71,7 +68,7 @@ loop-again c =
 
 returns-2 : tie.Need-returns-2 Inv-loop μ-loop
 returns-2 c =
-    let s = c .before .before .before .before .before .before .before .before .before .before .before .args .s .now in
+    let s = c .before .before .before .before .before .before .before .before .before .before .args .s .now in
     let l = c .before .loop in
     sym (passed-end s _ (l .k) (l .p) (l .inv .0) (rowRule (layoutOf s)) (l .inv .4) (c .loop-test .left))
 
@@ -88,13 +85,12 @@ first-bad-row-spec =
     (λ c κs. search needs)
     (λ c κs. search needs)
     (λ c κs. search needs)
-    (λ c κs. search needs)
     loop-holds
     (λ c κs. search needs)
     (λ c κs. search needs)
     (λ c. search needs)
     returns
-    next-requires
+    (λ c κs. search needs)
     loop-less
     loop-again
     returns-2)

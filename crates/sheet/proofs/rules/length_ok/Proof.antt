@@ -1,6 +1,6 @@
 -- Both lengths are compared with the one that the number of parties asks for.
 use mathlib.Core.Bool.{true, false}
-use mathlib.Core.Path.{_≡_, sym, ap, _∙_}
+use mathlib.Core.Path.{_≡_, sym, _∙_}
 use borrow.Author.Needs.{needs}
 use borrow.Author.Tests.{eq-eqb, ne-eqb}
 use lib.Dec.{eqb}
@@ -12,15 +12,15 @@ use Rattle.sheet.proofs.rules.length_ok.Tie as tie
 
 returns : tie.Need-returns
 returns c =
-    let s = c .before .before .before .before .before .before .args .s .now in
-    let whole : c .before .before .sheet-length .result ≡ sheetLength (getD s 5 0) = c .before .before .sheet-length .ensures ∙ ap sheetLength (c .before .before .before .size .ensures .0) in
+    let s = c .before .before .before .before .before .args .s .now in
+    let whole : c .before .before .sheet-length .result ≡ sheetLength (getD s 5 0) = c .before .before .sheet-length .ensures in
     let other : eqb (num s 0 2) (sheetLength (getD s 5 0)) ≡ false = ne-eqb _ _ (λ e. c .if1 .taken (c .before .two .ensures ∙ e ∙ sym whole)) in
     rw other
 
 returns-2 : tie.Need-returns-2
 returns-2 c =
-    let s = c .before .before .before .before .before .before .args .s .now in
-    let whole : c .before .before .sheet-length .result ≡ sheetLength (getD s 5 0) = c .before .before .sheet-length .ensures ∙ ap sheetLength (c .before .before .before .size .ensures .0) in
+    let s = c .before .before .before .before .before .args .s .now in
+    let whole : c .before .before .sheet-length .result ≡ sheetLength (getD s 5 0) = c .before .before .sheet-length .ensures in
     let same : eqb (num s 0 2) (sheetLength (getD s 5 0)) ≡ true = eq-eqb _ _ (sym (c .before .two .ensures) ∙ c .if1 .left ∙ whole) in
     rw (same, whole)
 
@@ -29,7 +29,6 @@ length-ok-spec =
     tie.close
     (tie.spec
     (λ c. search needs)
-    (λ c κs. search needs)
     (λ c κs. search needs)
     (λ c κs. search needs)
     (λ c. search needs)

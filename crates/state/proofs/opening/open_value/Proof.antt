@@ -3,12 +3,11 @@ use mathlib.Core.Path.{_≡_, sym, ap, _∙_}
 use borrow.Author.Needs.{needs}
 use native.Mathlib.Omega.{arith}
 use lib.ListN.{length, getD}
-use Rattle.sheet.specs.Check.{done}
-use Rattle.sheet.specs.Answers.{answerOf}
+use Rattle.answers.specs.Answers.{done, answerOf}
 use Rattle.sheet.specs.Words.{Rules6}
 use Rattle.state.specs.Opening.{openAnswer}
 use Rattle.state.proofs.Filled.{sheet-most}
-use Rattle.state.proofs.Verdicts.{refused-number}
+use Rattle.answers.proofs.Verdicts.{refused-number}
 use Rattle.state.proofs.Openings.{opens-says, opened-blank, opened-fresh}
 use Rattle.state.proofs.opening.open_value.Statement.{statement}
 use Rattle.state.proofs.opening.open_value.Tie as tie

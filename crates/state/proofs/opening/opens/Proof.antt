@@ -2,11 +2,11 @@
 use mathlib.Core.Path.{_≡_, sym, ap, _∙_}
 use borrow.Author.Needs.{needs}
 use native.Mathlib.Omega.{arith}
-use Rattle.sheet.specs.Check.{done, checkAnswer}
-use Rattle.sheet.specs.Answers.{answerOf}
+use Rattle.answers.specs.Answers.{done, answerOf}
+use Rattle.sheet.specs.Check.{checkAnswer}
 use Rattle.sheet.specs.Words.{Rules3}
 use Rattle.sheet.proofs.Says.{check-says}
-use Rattle.state.proofs.Verdicts.{refused-number}
+use Rattle.answers.proofs.Verdicts.{refused-number}
 use Rattle.state.proofs.Openings.{not-accepted, miscounted, opens}
 use Rattle.state.proofs.opening.opens.Statement.{statement}
 use Rattle.state.proofs.opening.opens.Tie as tie

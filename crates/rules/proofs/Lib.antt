@@ -1,0 +1,3 @@
+-- Laws that several proofs cite; each file says its argument in its first line.
+pub mod Ascending
+pub mod Quick
