@@ -81,20 +81,11 @@ fn announce(n: u8, i: u8, p: Party) -> Party
     go_to(p, 2, i, 0, p.candidate)
 }
 
-// Where the published candidate of a round and a lower stands.
-fn cell_of(round: u8, k: u8) -> usize
-    requires { ⌜ (1 ≤ round) × (round ≤ 16) × (1 ≤ k) × (k ≤ 16) ⌝ }
-    ensures { λ r. ⌜ r ≡ cell round k ⌝ }
-    ensures { λ r. ⌜ r < 256 ⌝ }
-{
-    16 * (round as usize - 1) + (k as usize - 1)
-}
-
 fn publish(published: &mut [u8; 256], i: u8, p: Party) -> Party
     requires { ⌜ (p .steps ≤ 1000) × (1 ≤ p .round) × (p .round ≤ 16) × (1 ≤ i) × (i ≤ 16) ⌝ }
     ensures { λ r. ⌜ (r ≡ counted (afterPublish p)) × (now (published .exit) ≡ set (now (published .entry)) (cell (p .round) i) (p .candidate)) ⌝ }
 {
-    let at = cell_of(p.round, i);
+    let at = state::cell_of(p.round, i);
     published[at] = p.candidate;
     go_to(p, 2, p.round, 0, p.candidate)
 }
@@ -184,7 +175,7 @@ fn fetch(published: &[u8; 256], n: u8, p: Party) -> Party
     requires { ⌜ (p .steps ≤ 1000) × (n ≤ 16) × (1 ≤ p .round) × (p .round ≤ 16) × (1 ≤ p .k) × (p .k ≤ 16) ⌝ }
     ensures { λ r. ⌜ r ≡ counted (afterFetch n (now (published .entry)) p) ⌝ }
 {
-    let at = cell_of(p.round, p.k);
+    let at = state::cell_of(p.round, p.k);
     win(n, p, p.round, published[at])
 }
 

@@ -1,6 +1,7 @@
 // What a session keeps.
 ghost use mathlib.Core.Path.{_≡_};
-ghost use Rattle.state.specs.Session.{freshParty};
+ghost use Prim.Native.Nat.{_-_, _<_};
+ghost use Rattle.state.specs.Session.{freshParty, cell};
 
 // A unit holds a mark.
 pub struct Mark(pub u8);
@@ -48,4 +49,18 @@ pub struct Session {
     pub marks: [u8; 1024],
     pub published: [u8; 256],
     pub parties: [Party; 16],
+}
+
+fn less_one(x: u8) -> usize
+    ensures { λ r. ⌜ r ≡ x - 1 ⌝ }
+    ensures { λ r. ⌜ r < 255 ⌝ }
+{
+    if x == 0 { 0 } else { x as usize - 1 }
+}
+
+// Where the published candidate of a round and a lower stands.
+pub fn cell_of(round: u8, k: u8) -> usize
+    ensures { λ r. ⌜ r ≡ cell round k ⌝ }
+{
+    16 * less_one(round) + less_one(k)
 }

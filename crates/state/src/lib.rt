@@ -6,3 +6,4 @@ pub mod wellformed;
 pub use kept::Mark;
 pub use kept::Party;
 pub use kept::Session;
+pub use kept::cell_of;

@@ -7,10 +7,11 @@ ghost use lib.Dec.{leb, ltb, eqb};
 ghost use Rattle.sheet.specs.Lists.{from, all};
 ghost use Rattle.sheet.specs.Bytes.{num};
 ghost use Rattle.sheet.specs.Check.{checkAnswer, within};
-ghost use Rattle.state.specs.Session.{cell, ofParts};
+ghost use Rattle.state.specs.Session.{ofParts};
 ghost use Rattle.state.specs.WellFormed.{carriedOk, marksOk, isLower, publishedOk, proposalsOk, same, roundOk, scanOk, lowerOk, topOk, idleOk, unstartedOk, decisionOk, statusOk, rangesOk, partyOk, unusedOk, partiesOk, wellFormed};
 use crate::kept::Party;
 use crate::kept::Session;
+use crate::kept::cell_of;
 use answers::Verdict;
 
 fn size(x: u8) -> usize
@@ -183,15 +184,6 @@ fn lower_ok(i: u8, p: Party) -> bool
         return i < p.round;
     }
     true
-}
-
-// Where the published candidate of a round and a lower stands.
-fn cell_of(round: u8, k: u8) -> usize
-    requires { ⌜ (1 ≤ round) × (round ≤ 16) × (1 ≤ k) × (k ≤ 16) ⌝ }
-    ensures { λ r. ⌜ r ≡ cell round k ⌝ }
-    ensures { λ r. ⌜ r < 256 ⌝ }
-{
-    16 * (round as usize - 1) + (k as usize - 1)
 }
 
 // Place 6 is the top's, after a witness that has published.

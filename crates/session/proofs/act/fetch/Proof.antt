@@ -11,7 +11,7 @@ returns : tie.Need-returns
 returns c =
     let a = c .before .before .before .args in
     c .win .ensures
-    ∙ ap (λ (k : ℕ). counted (won (a .n) (a .p) (a .p .round) (getD (a .published .now) k 0))) (c .before .before .cell-of .ensures .0)
+    ∙ ap (λ (k : ℕ). counted (won (a .n) (a .p) (a .p .round) (getD (a .published .now) k 0))) (c .before .before .cell-of .ensures)
 
 pub fetch-spec : {M : Type 1} → statement M
 fetch-spec = tie.close (tie.spec (λ c κs. search needs) (λ c. search needs) (λ c κs. search needs) returns)
