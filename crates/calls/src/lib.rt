@@ -1,4 +1,5 @@
-// The calls on a whole session: lent, and by value.
+// The calls: stop and live on the parts of a session, and step, stop and live on a whole one, lent and by value.
+pub mod parts;
 pub mod values;
 
 ghost use mathlib.Core.Path.{_≡_};

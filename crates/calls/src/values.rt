@@ -1,7 +1,7 @@
 // The calls on a session by value.
 ghost use mathlib.Core.Path.{_≡_};
 ghost use Rattle.session.specs.Calls.{toldOf, stepTold, stepped, stopTold, stopped, liveTold};
-use session::parts;
+use crate::parts;
 use session::reply::Reply;
 use state::Session;
 
@@ -18,7 +18,7 @@ pub fn step_value(s: Session, party: u32) -> After
     let mut marks = s.marks;
     let mut published = s.published;
     let parties = s.parties;
-    let turn = parts::step_parts(
+    let turn = session::parts::step_parts(
         &s.sheet,
         &s.proposals,
         &mut marks,

@@ -102,7 +102,7 @@ pub extern "C" fn sepalsail_stop(session: &mut [u8], party: u32) -> u64
     image::read_parts(session, &mut sheet, &mut marks, &mut published);
     let proposals = image::proposals_of(session);
     let parties = image::parties_of(session);
-    let turn = parts::stop_parts(&sheet, &proposals, &marks, &published, parties, party);
+    let turn = calls::parts::stop_parts(&sheet, &proposals, &marks, &published, parties, party);
     let reply = turn.reply;
     if let Reply::Refused(r) = reply {
         return words::refused(r);
@@ -126,7 +126,7 @@ pub extern "C" fn sepalsail_live(session: &[u8]) -> u64
     image::read_parts(session, &mut sheet, &mut marks, &mut published);
     let proposals = image::proposals_of(session);
     let parties = image::parties_of(session);
-    words::reply(parts::live_parts(&sheet, &proposals, &marks, &published, parties))
+    words::reply(calls::parts::live_parts(&sheet, &proposals, &marks, &published, parties))
 }
 
 // A schedule that has a byte at the last index: never obeyed, so it is run as far as that byte with no room for a record.

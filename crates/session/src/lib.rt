@@ -1,4 +1,4 @@
-// Sessions: one act, the calls on their parts, and the run.
+// Sessions: one act, the step on their parts, and the run.
 mod act;
 pub mod parts;
 pub mod reply;

@@ -1,16 +1,15 @@
-// The calls on the parts of a session: step, stop and live.
+// The step on the parts of a session, why a call for a party is refused, and what a stop makes of a party.
 ghost use mathlib.Core.Path.{_≡_};
 ghost use mathlib.Core.Bool.{cond};
-ghost use Prim.Native.Nat.{_≤_, _<_, _-_};
+ghost use Prim.Native.Nat.{_≤_};
 ghost use lib.ListN.{length, take};
 ghost use lib.Dec.{eqb};
-ghost use Rattle.sheet.specs.Lists.{from};
 ghost use Rattle.sheet.specs.Check.{within};
 ghost use Rattle.sheet.specs.Rows.{layoutOf};
-ghost use Rattle.state.specs.Session.{ofParts, partyOf};
-ghost use Rattle.session.specs.Step.{isLive, stoppedParty, counted, placeOf, partyAfter, marksAfter, publishedAfter};
+ghost use Rattle.state.specs.Session.{ofParts};
+ghost use Rattle.session.specs.Step.{stoppedParty, counted, placeOf, partyAfter, marksAfter, publishedAfter};
 ghost use Rattle.session.specs.Ready.{Ready};
-ghost use Rattle.session.specs.Calls.{toldOf, unlessRefused, stepTold, stepped, stopTold, stopped, countOf, liveTold};
+ghost use Rattle.session.specs.Calls.{toldOf, unlessRefused, stepTold, stepped};
 use crate::act;
 use crate::reply::Reply;
 use crate::reply::Turn;
@@ -25,7 +24,7 @@ fn is_party(n: u8, party: u32) -> bool
 }
 
 // Why a call for a party is refused: 9, then 10. Where it is not, the value 0.
-fn asked<'a>(
+pub fn asked<'a>(
     sheet: &'a [u8; 1898],
     proposals: &'a [u32; 16],
     marks: &'a [u8; 1024],
@@ -101,7 +100,8 @@ fn status_after(status: u8) -> u8
     if status == 2 { 2 } else { 3 }
 }
 
-pub(crate) fn stop_party(p: Party) -> Party
+// What a stop makes of a party.
+pub fn stop_party(p: Party) -> Party
     ensures { λ r. ⌜ r ≡ stoppedParty p ⌝ }
 {
     Party {
@@ -113,65 +113,4 @@ pub(crate) fn stop_party(p: Party) -> Party
         steps: p.steps,
         decision: p.decision,
     }
-}
-
-// A stop of party `party`, on the parts of a session: its status afterwards.
-pub fn stop_parts<'a>(
-    sheet: &'a [u8; 1898],
-    proposals: &'a [u32; 16],
-    marks: &'a [u8; 1024],
-    published: &'a [u8; 256],
-    parties: [Party; 16],
-    party: u32,
-) -> Turn
-    ensures { λ r. ⌜ ofParts (now (sheet .entry)) (now (proposals .entry)) (now (marks .entry)) (now (published .entry)) (r .parties) ≡ stopped (ofParts (now (sheet .entry)) (now (proposals .entry)) (now (marks .entry)) (now (published .entry)) parties) party ⌝ }
-    ensures { λ r. ⌜ toldOf (r .reply) ≡ stopTold (ofParts (now (sheet .entry)) (now (proposals .entry)) (now (marks .entry)) (now (published .entry)) parties) party ⌝ }
-{
-    let reply = asked(sheet, proposals, marks, published, parties, party);
-    if let Reply::Refused(_) = reply {
-        return Turn { parties, reply };
-    }
-    let at = party as usize - 1;
-    let p = parties[at];
-    let q = stop_party(p);
-    let mut after = parties;
-    after[at] = q;
-    let reply = Reply::Gave(q.status);
-    Turn {
-        parties: after,
-        reply,
-    }
-}
-
-fn count_live(parties: [Party; 16], n: u8) -> u8
-    requires { ⌜ n ≤ 16 ⌝ }
-    ensures { λ r. ⌜ r ≡ countOf (λ i. isLive (partyOf parties i)) (from 1 n) ⌝ }
-{
-    let mut count: u8 = 0;
-    let mut i: u8 = 1;
-    while i <= n {
-        let at = i as usize - 1;
-        let p = parties[at];
-        if p.status < 2 {
-            count += 1;
-        }
-        i += 1;
-    }
-    count
-}
-
-// How many parties are live, of the parts of a session.
-pub fn live_parts<'a>(
-    sheet: &'a [u8; 1898],
-    proposals: &'a [u32; 16],
-    marks: &'a [u8; 1024],
-    published: &'a [u8; 256],
-    parties: [Party; 16],
-) -> Reply
-    ensures { λ r. ⌜ toldOf r ≡ liveTold (ofParts (now (sheet .entry)) (now (proposals .entry)) (now (marks .entry)) (now (published .entry)) parties) ⌝ }
-{
-    if !wellformed::parts_well_formed(sheet, proposals, marks, published, parties) {
-        return Reply::Refused(Refusal::Session);
-    }
-    Reply::Gave(count_live(parties, sheet[5]))
 }

@@ -10,11 +10,11 @@ use Rattle.state.specs.Session.{ofParts, partyOf}
 use Rattle.state.specs.WellFormed.{wellFormed}
 use Rattle.state.specs.declared.kept.Session.{Session}
 use Rattle.state.proofs.Tested.{passed, stopped}
 use Rattle.session.specs.Step.{isLive}
 use Rattle.session.specs.Calls.{told, countOf, liveNumber, liveTold}
 use Rattle.session.proofs.Refusals.{parties-byte, parties-few}
-use Rattle.session.proofs.parts.live_parts.Statement.{statement}
-use Rattle.session.proofs.parts.live_parts.Tie as tie
+use Rattle.calls.proofs.parts.live_parts.Statement.{statement}
+use Rattle.calls.proofs.parts.live_parts.Tie as tie
 
 -- the answer, by the test
 answered : (s : Session) {b : Bool} → wellFormed s ≡ b → cond b (told 0 (liveNumber s)) (told 9 0) ≡ liveTold s

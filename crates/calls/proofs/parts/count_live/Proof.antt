@@ -12,10 +12,10 @@ use native.Mathlib.Omega.{arith}
 use Rattle.sheet.specs.Lists.{from}
 use Rattle.state.specs.Session.{partyOf}
 use Rattle.state.specs.declared.kept.Party.{Party}
 use Rattle.session.specs.Step.{isLive}
 use Rattle.session.specs.Calls.{countOf}
-use Rattle.session.proofs.parts.count_live.Statement.{statement}
-use Rattle.session.proofs.parts.count_live.Tie as tie
+use Rattle.calls.proofs.parts.count_live.Statement.{statement}
+use Rattle.calls.proofs.parts.count_live.Tie as tie
 
 -- the number of those from i on
 abbrev Left : (ℕ → Bool) → ℕ → ℕ → ℕ

@@ -1,0 +1,74 @@
+// Stop and live on the parts of a session.
+ghost use mathlib.Core.Path.{_≡_};
+ghost use Prim.Native.Nat.{_≤_};
+ghost use Rattle.sheet.specs.Lists.{from};
+ghost use Rattle.state.specs.Session.{ofParts, partyOf};
+ghost use Rattle.session.specs.Step.{isLive};
+ghost use Rattle.session.specs.Calls.{toldOf, stopTold, stopped, countOf, liveTold};
+use session::parts;
+use session::reply::Reply;
+use session::reply::Turn;
+use answers::Refusal;
+use state::Party;
+use state::wellformed;
+
+// A stop of party `party`, on the parts of a session: its status afterwards.
+pub fn stop_parts<'a>(
+    sheet: &'a [u8; 1898],
+    proposals: &'a [u32; 16],
+    marks: &'a [u8; 1024],
+    published: &'a [u8; 256],
+    parties: [Party; 16],
+    party: u32,
+) -> Turn
+    ensures { λ r. ⌜ ofParts (now (sheet .entry)) (now (proposals .entry)) (now (marks .entry)) (now (published .entry)) (r .parties) ≡ stopped (ofParts (now (sheet .entry)) (now (proposals .entry)) (now (marks .entry)) (now (published .entry)) parties) party ⌝ }
+    ensures { λ r. ⌜ toldOf (r .reply) ≡ stopTold (ofParts (now (sheet .entry)) (now (proposals .entry)) (now (marks .entry)) (now (published .entry)) parties) party ⌝ }
+{
+    let reply = parts::asked(sheet, proposals, marks, published, parties, party);
+    if let Reply::Refused(_) = reply {
+        return Turn { parties, reply };
+    }
+    let at = party as usize - 1;
+    let p = parties[at];
+    let q = parts::stop_party(p);
+    let mut after = parties;
+    after[at] = q;
+    let reply = Reply::Gave(q.status);
+    Turn {
+        parties: after,
+        reply,
+    }
+}
+
+fn count_live(parties: [Party; 16], n: u8) -> u8
+    requires { ⌜ n ≤ 16 ⌝ }
+    ensures { λ r. ⌜ r ≡ countOf (λ i. isLive (partyOf parties i)) (from 1 n) ⌝ }
+{
+    let mut count: u8 = 0;
+    let mut i: u8 = 1;
+    while i <= n {
+        let at = i as usize - 1;
+        let p = parties[at];
+        if p.status < 2 {
+            count += 1;
+        }
+        i += 1;
+    }
+    count
+}
+
+// How many parties are live, of the parts of a session.
+pub fn live_parts<'a>(
+    sheet: &'a [u8; 1898],
+    proposals: &'a [u32; 16],
+    marks: &'a [u8; 1024],
+    published: &'a [u8; 256],
+    parties: [Party; 16],
+) -> Reply
+    ensures { λ r. ⌜ toldOf r ≡ liveTold (ofParts (now (sheet .entry)) (now (proposals .entry)) (now (marks .entry)) (now (published .entry)) parties) ⌝ }
+{
+    if !wellformed::parts_well_formed(sheet, proposals, marks, published, parties) {
+        return Reply::Refused(Refusal::Session);
+    }
+    Reply::Gave(count_live(parties, sheet[5]))
+}
