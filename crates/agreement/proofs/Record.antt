@@ -16,7 +16,7 @@ use Rattle.state.specs.Session.{noParty, partyOf}
 use Rattle.state.specs.declared.kept.Party.{Party}
 use Rattle.state.specs.declared.kept.Session.{Session}
 use Rattle.state.proofs.Openings.{opens}
-use Rattle.record.specs.Record.{partyBytes, recordHead, recordBytes, recordLength}
+use Rattle.record.specs.Record.{partyRecord, recordHead, recordBytes, recordLength}
 use Rattle.session.specs.Run.{byteOk, runAnswer, ran, runOut}
 use Rattle.session.specs.Reach.{Reached}
 use Rattle.session.proofs.RunAnswers.{run-done, out-written}
@@ -30,17 +30,17 @@ use Rattle.agreement.proofs.Readings.{Says, read}
 -- past the first k parties the bytes of the next one come first
 abbrev Next : ℕ → ℕ → List Party → List ℕ → Type 0
 Next k n ps rest =
-    (tail : List ℕ) × (drop (7 * k) (flat (map partyBytes (take n ps)) ++ rest) ≡ partyBytes (getD ps k noParty) ++ tail)
+    (tail : List ℕ) × (drop (7 * k) (flat (map partyRecord (take n ps)) ++ rest) ≡ partyRecord (getD ps k noParty) ++ tail)
 
 next : (k n : ℕ) (ps : List Party) (rest : List ℕ) → k < n → k < length ps → Next k n ps rest
 next k zero ps rest l h = absurd (omega arith)
 next k (suc n) [] rest l h = absurd (omega arith)
-next zero (suc n) (p ∷ ps) rest l h = (flat (map partyBytes (take n ps)) ++ rest, refl)
+next zero (suc n) (p ∷ ps) rest l h = (flat (map partyRecord (take n ps)) ++ rest, refl)
 next (suc k) (suc n) (p ∷ ps) rest l h =
     let later = next k n ps rest (omega arith) (omega arith) in
-    let more = flat (map partyBytes (take n ps)) ++ rest in
+    let more = flat (map partyRecord (take n ps)) ++ rest in
     let place : 7 * suc k ≡ 7 + 7 * k = omega arith in
-    (later .0, ap (λ (j : ℕ). drop j (partyBytes p ++ more)) place ∙ drop-append-add (partyBytes p) more (7 * k) ∙ later .1)
+    (later .0, ap (λ (j : ℕ). drop j (partyRecord p ++ more)) place ∙ drop-append-add (partyRecord p) more (7 * k) ∙ later .1)
 
 -- the bytes of out say p of party i
 abbrev In : List ℕ → ℕ → Party → Type 0
@@ -56,8 +56,8 @@ module _ (n : ℕ) (ps : List Party) (rest : List ℕ) (i : ℕ) (least : 1 ≤ 
   after : Next (i - 1) n ps rest
   after = next (i - 1) n ps rest (omega arith) (omega arith)
 
-  stands : drop (placeIn i) bytes ≡ partyBytes party ++ after .0
-  stands = drop-append-add (recordHead n) (flat (map partyBytes (take n ps)) ++ rest) (7 * (i - 1)) ∙ after .1
+  stands : drop (placeIn i) bytes ≡ partyRecord party ++ after .0
+  stands = drop-append-add (recordHead n) (flat (map partyRecord (take n ps)) ++ rest) (7 * (i - 1)) ∙ after .1
 
   says : Fits party → In bytes i party
   says f =

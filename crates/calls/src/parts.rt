@@ -5,10 +5,10 @@ ghost use Rattle.sheet.specs.Lists.{from};
 ghost use Rattle.state.specs.Session.{ofParts, partyOf};
 ghost use Rattle.session.specs.Step.{isLive};
 ghost use Rattle.session.specs.Calls.{toldOf, stopTold, stopped, countOf, liveTold};
+use answers::Refusal;
 use session::parts;
 use session::reply::Reply;
 use session::reply::Turn;
-use answers::Refusal;
 use state::Party;
 use state::wellformed;
 

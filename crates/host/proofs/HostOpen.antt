@@ -62,10 +62,10 @@ module _ (sheet bytes session : List ℕ) (count : ℕ) (fits : (m : ℕ) → 1 
     open-short n = answers-at (answer 11 0) (opens .2 _ ∙ rw (ne-eqb (length session) 3418 n))
 
     -- what is written for a fresh session
-    module _ (own : List ℕ) (parties : List Party) (own-is : own ≡ filled 16 xs)
+    module _ (numbers : List ℕ) (parties : List Party) (numbers-are : numbers ≡ filled 16 xs)
         (parties-are : parties ≡ map freshParty (from 1 (min (getD sheet 5 0) 16)) ++ replicate (16 - getD sheet 5 0) noParty) where
       abbrev written : Session
-      written = ofParts (filled 1898 sheet) own (replicate 1024 0) (replicate 256 0) parties
+      written = ofParts (filled 1898 sheet) numbers (replicate 1024 0) (replicate 256 0) parties
 
       pub open-filled : length session ≡ 3418 → (now : List ℕ)
           → now ≡ cond (eqb (length session) 3418 && leb (length sheet) 1898) (sessionBytes written) session → Answers 0 now
@@ -76,6 +76,6 @@ module _ (sheet bytes session : List ℕ) (count : ℕ) (fits : (m : ℕ) → 1 
           let a = answers-at done (opens .2 _ ∙ rw (eq-eqb (length session) 3418 l)) in
           let both : (eqb (length session) 3418 && leb (length sheet) 1898) ≡ true = rw (eq-eqb (length session) 3418 l, le-leb (length sheet) 1898 (sheet-most sheet rules)) in
           let fresh-is : written ≡ freshSession sheet xs (getD sheet 5 0) =
-          λ i. ofParts (filled 1898 sheet) (own-is i) (replicate 1024 0) (replicate 256 0) ((parties-are ∙ fresh-taken (getD sheet 5 0) few) i) in
+          λ i. ofParts (filled 1898 sheet) (numbers-are i) (replicate 1024 0) (replicate 256 0) ((parties-are ∙ fresh-taken (getD sheet 5 0) few) i) in
           let whole = fresh-is ∙ ap (λ (ys : List ℕ). freshSession sheet ys (getD sheet 5 0)) (opens .1) in
           (a .0, is ∙ ap (λ (b : Bool). cond b (sessionBytes written) session) both ∙ ap sessionBytes whole ∙ a .1)

@@ -19,12 +19,12 @@ module _ (sheet bytes : List ℕ) (count : ℕ) (fits : (m : ℕ) → 1 ≤ m �
   abbrev xs : List ℕ
   xs = proposalsOf count bytes
 
-  abbrev own : List ℕ
-  own = proposalsFor sheet bytes
+  abbrev numbers : List ℕ
+  numbers = proposalsFor sheet bytes
 
   -- the host's answer to a schedule as it is heard
   abbrev host : ℕ → Answer
-  host len = unlessUnopened sheet bytes (runAnswer sheet own schedule len)
+  host len = unlessUnopened sheet bytes (runAnswer sheet numbers schedule len)
 
   refusedAs : (a b : Answer) → a ≡ b → eqb (b .number) 0 ≡ false → eqb (a .number) 0 ≡ false
   refusedAs a b e f = ap (λ (c : Answer). eqb (c .number) 0) e ∙ f
@@ -37,14 +37,14 @@ module _ (sheet bytes : List ℕ) (count : ℕ) (fits : (m : ℕ) → 1 ≤ m �
   run-is len = by (lent sheet bytes count fits)
     where
       by : Opens sheet bytes count fits ⊎ Refuses sheet bytes count fits → runAnswer sheet xs schedule len ≡ host len
-      by (inl z) = ap (λ (ys : List ℕ). runAnswer sheet ys schedule len) (z .1) ∙ sym (z .2 (runAnswer sheet own schedule len))
-      by (inr z) = unopened len (z .0) ∙ sym (z .1 (runAnswer sheet own schedule len))
+      by (inl z) = ap (λ (ys : List ℕ). runAnswer sheet ys schedule len) (z .1) ∙ sym (z .2 (runAnswer sheet numbers schedule len))
+      by (inr z) = unopened len (z .0) ∙ sym (z .1 (runAnswer sheet numbers schedule len))
 
   -- ---- the output
 
   module _ (out : List ℕ) where
     outAt : Answer → List ℕ
-    outAt a = cond (eqb (a .number) 0) (runOut sheet own schedule out) out
+    outAt a = cond (eqb (a .number) 0) (runOut sheet numbers schedule out) out
 
     twice : (b : Bool) (written : List ℕ) → cond b written out ≡ cond b (cond b written out) out
     twice true written = refl
@@ -53,18 +53,18 @@ module _ (sheet bytes : List ℕ) (count : ℕ) (fits : (m : ℕ) → 1 ≤ m �
     kept : (b : Bool) (written : List ℕ) → b ≡ false → cond b written out ≡ out
     kept b written e = rw e
 
-    pub out-is : runOut sheet xs schedule out ≡ cond (eqb (host (length out) .number) 0) (runOut sheet own schedule out) out
+    pub out-is : runOut sheet xs schedule out ≡ cond (eqb (host (length out) .number) 0) (runOut sheet numbers schedule out) out
     unfolding outAt
     out-is = by (lent sheet bytes count fits)
       where
         by : Opens sheet bytes count fits ⊎ Refuses sheet bytes count fits → runOut sheet xs schedule out ≡ outAt (host (length out))
         by (inl z) =
             ap (λ (ys : List ℕ). runOut sheet ys schedule out) (z .1)
-            ∙ twice (eqb (runAnswer sheet own schedule (length out) .number) 0) _
-            ∙ ap outAt (sym (z .2 (runAnswer sheet own schedule (length out))))
+            ∙ twice (eqb (runAnswer sheet numbers schedule (length out) .number) 0) _
+            ∙ ap outAt (sym (z .2 (runAnswer sheet numbers schedule (length out))))
         by (inr z) =
             kept (eqb (runAnswer sheet xs schedule (length out) .number) 0) _ (refusedAs _ _ (unopened (length out) (z .0)) (z .0))
-            ∙ sym (kept (eqb (host (length out) .number) 0) (runOut sheet own schedule out) (refusedAs _ _ (z .1 (runAnswer sheet own schedule (length out))) (z .0)))
+            ∙ sym (kept (eqb (host (length out) .number) 0) (runOut sheet numbers schedule out) (refusedAs _ _ (z .1 (runAnswer sheet numbers schedule (length out))) (z .0)))
 
     -- ---- a schedule with a bad byte: the room for a record is not asked for, and nothing is written
 

@@ -132,24 +132,24 @@ module _ (sheet proposals : List ℕ) where
   pub open-fits : (len : ℕ) → AnswerFits (hostOpen sheet proposals len)
   open-fits len = past-check slice _ (chosen AnswerFits (eqb len 3418) (λ _. plain 0 (omega arith)) (λ _. plain 11 (omega arith)))
 
-  abbrev own : List ℕ
-  own = proposalsFor sheet proposals
+  abbrev numbers : List ℕ
+  numbers = proposalsFor sheet proposals
 
   -- a run of a schedule whose first bad byte has an index that fits
   pub run-fits : (schedule : List ℕ) (len : ℕ) → firstBad (byteOk (getD sheet 5 0)) 1 schedule ≤ 2 ^ 32
-      → AnswerFits (unlessUnopened sheet proposals (runAnswer sheet own schedule len))
+      → AnswerFits (unlessUnopened sheet proposals (runAnswer sheet numbers schedule len))
   run-fits schedule len most = past-check slice _ run
     where
       bad : ℕ
       bad = firstBad (byteOk (getD sheet 5 0)) 1 schedule
 
-      run : AnswerFits (runAnswer sheet own schedule len)
+      run : AnswerFits (runAnswer sheet numbers schedule len)
       run =
-          chosen AnswerFits (eqb (openAnswer sheet own .number) 0) (λ _.
+          chosen AnswerFits (eqb (openAnswer sheet numbers .number) 0) (λ _.
           chosen AnswerFits (eqb bad 0) (λ _.
           chosen AnswerFits (ltb len (recordLength (getD sheet 5 0))) (λ _. plain 11 (omega arith)) (λ _. plain 0 (omega arith)))
           (λ _. refuses 8 (bad - 1) (omega arith) (omega arith) (λ a b c. absurd (c refl))))
-          (λ _. past-check (eqb (length own) (getD sheet 5 0)) done (plain 0 (omega arith)))
+          (λ _. past-check (eqb (length numbers) (getD sheet 5 0)) done (plain 0 (omega arith)))
 
 -- the first bad byte of a schedule whose byte at an index counts as bad has at most that index
 pub heard-most : (last limit : ℕ) (sheet schedule : List ℕ) → suc last ≤ limit

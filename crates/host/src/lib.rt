@@ -42,8 +42,8 @@ pub extern "C" fn sepalsail_open(sheet: &[u8], proposals: &[u8], session: &mut [
 {
     let given = proposals::proposals_from(proposals);
     let count = given.count;
-    let own = given.own;
-    let v = opening::opens(sheet, &own[..count]);
+    let numbers = given.numbers;
+    let v = opening::opens(sheet, &numbers[..count]);
     if let Verdict::Refused(r) = v {
         return words::refused(r);
     }
@@ -51,7 +51,7 @@ pub extern "C" fn sepalsail_open(sheet: &[u8], proposals: &[u8], session: &mut [
         return words::refused(Refusal::Output);
     }
     let parties = opening::fresh_parties(sheet[5]);
-    image::write_fresh(sheet, own, parties, session);
+    image::write_fresh(sheet, numbers, parties, session);
     0
 }
 
@@ -155,9 +155,9 @@ pub extern "C" fn sepalsail_run(
 {
     let given = proposals::proposals_from(proposals);
     let count = given.count;
-    let own = given.own;
+    let numbers = given.numbers;
     if 4294967295 < schedule.len() {
-        return run_long(sheet, &own[..count], schedule);
+        return run_long(sheet, &numbers[..count], schedule);
     }
-    words::verdict(runs::run(sheet, &own[..count], schedule, out))
+    words::verdict(runs::run(sheet, &numbers[..count], schedule, out))
 }

@@ -11,12 +11,12 @@ use Rattle.sheet.proofs.Ranges.{length-range}
 use Rattle.state.specs.Session.{filled}
 use Rattle.image.specs.Image.{proposalsOf}
 
-module _ (bytes own : List ℕ) (count : ℕ) (is : own ≡ filled 16 (proposalsOf count bytes)) where
-  pub front : take count own ≡ proposalsOf count bytes
+module _ (bytes numbers : List ℕ) (count : ℕ) (is : numbers ≡ filled 16 (proposalsOf count bytes)) where
+  pub front : take count numbers ≡ proposalsOf count bytes
   front = ap (take count) is ∙ take-at (proposalsOf count bytes) _ count (length-range (λ j. num bytes (4 * j) 4) 0 count)
 
-  pub front-length : length (take count own) ≡ count
+  pub front-length : length (take count numbers) ≡ count
   front-length = ap length front ∙ length-range (λ j. num bytes (4 * j) 4) 0 count
 
-  pub front-fits : count ≤ length own
-  front-fits = omega (arith, front-length, length-take count own, min-le-right count (length own))
+  pub front-fits : count ≤ length numbers
+  front-fits = omega (arith, front-length, length-take count numbers, min-le-right count (length numbers))

@@ -14,14 +14,14 @@ use Rattle.state.specs.Session.{noParty, ofParts}
 use Rattle.state.specs.declared.kept.Party.{Party}
 use Rattle.state.specs.declared.kept.Session.{Session}
 use Rattle.state.proofs.Copies.{range-at}
-use Rattle.image.specs.Image.{partyBytes, proposalsBytes, partiesBytes, sessionBytes}
+use Rattle.image.specs.Image.{partyImage, proposalsBytes, partiesBytes, sessionBytes}
 use Rattle.image.specs.Image.{partyFrom, proposalsOf, partiesFrom, sessionOf, Below, SizedParty, Sized}
 use Rattle.image.proofs.Bytes.{below-drop, below-take, below-cons, below-append, below-flat, below-bytes, bytes-num}
 use Rattle.image.proofs.Cuts.{cut-joined, joined-cuts}
 
 -- ---- a party: `back` is decode of encode, `again` is encode of decode
 
-party-back : (p : Party) → SizedParty p → (r : List ℕ) → partyFrom (partyBytes p ++ r) ≡ p
+party-back : (p : Party) → SizedParty p → (r : List ℕ) → partyFrom (partyImage p ++ r) ≡ p
 party-back p z r = λ i.
     record {
       status = p .status;
@@ -42,7 +42,7 @@ five b h =
     ∙ ap (λ (xs : List ℕ). getD b 0 0 ∷ getD b 1 0 ∷ getD b 2 0 ∷ xs) (drop-cons b 3 0 (omega arith))
     ∙ ap (λ (xs : List ℕ). getD b 0 0 ∷ getD b 1 0 ∷ getD b 2 0 ∷ getD b 3 0 ∷ xs) (drop-cons b 4 0 (omega arith))
 
-party-again : (b : List ℕ) → 11 ≤ length b → Below 256 b → partyBytes (partyFrom b) ≡ take 11 b
+party-again : (b : List ℕ) → 11 ≤ length b → Below 256 b → partyImage (partyFrom b) ≡ take 11 b
 party-again b h low =
     let steps = bytes-num 2 5 b (omega arith) low in
     let decision = bytes-num 4 7 b (omega arith) low ∙ ap (take 4) (sym (drop-drop 2 5 b)) in
@@ -62,7 +62,7 @@ party-sized b h low =
       decisionFits = num-below b 7 4 (omega arith) low;
     }
 
-party-below : (p : Party) → SizedParty p → Below 256 (partyBytes p)
+party-below : (p : Party) → SizedParty p → Below 256 (partyImage p)
 party-below p z =
     let steps = bytesOf 2 (p .steps) in
     let decision = bytesOf 4 (p .decision) in
@@ -79,7 +79,7 @@ pub length-proposals : (xs : List ℕ) → length xs ≡ 16 → length (proposal
 length-proposals xs l = length-flat (bytesOf 4) 4 (λ x. refl) xs ∙ ap (λ (k : ℕ). k * 4) l
 
 length-parties : (ps : List Party) → length ps ≡ 16 → length (partiesBytes ps) ≡ 176
-length-parties ps l = length-flat partyBytes 11 (λ p. refl) ps ∙ ap (λ (k : ℕ). k * 11) l
+length-parties ps l = length-flat partyImage 11 (λ p. refl) ps ∙ ap (λ (k : ℕ). k * 11) l
 
 proposals-back : (xs rest b : List ℕ) → length xs ≡ 16 → Below (2 ^ 32) xs → b ≡ proposalsBytes xs ++ rest → proposalsOf 16 b ≡ xs
 proposals-back xs rest b l low e =
@@ -91,7 +91,7 @@ parties-back : (ps : List Party) (rest b : List ℕ) → length ps ≡ 16 → ((
     → b ≡ partiesBytes ps ++ rest → partiesFrom b ≡ ps
 parties-back ps rest b l low e =
     ap (λ (n : ℕ). map (λ j. partyFrom (drop (11 * j) b)) (from 0 n)) (sym l)
-    ∙ cut-joined partyBytes partyFrom 11 (λ p. refl) ps noParty (λ k h. party-back (getD ps k noParty) (low k h)) b rest 0 e
+    ∙ cut-joined partyImage partyFrom 11 (λ p. refl) ps noParty (λ k h. party-back (getD ps k noParty) (low k h)) b rest 0 e
 
 proposals-again : (b : List ℕ) → 64 ≤ length b → Below 256 b → proposalsBytes (proposalsOf 16 b) ≡ take 64 b
 proposals-again b h low =
@@ -100,7 +100,7 @@ proposals-again b h low =
 
 parties-again : (b : List ℕ) → 176 ≤ length b → Below 256 b → partiesBytes (partiesFrom b) ≡ take 176 b
 parties-again b h low =
-    joined-cuts partyBytes partyFrom 11 b 0 16
+    joined-cuts partyImage partyFrom 11 b 0 16
     (λ j l. party-again (drop (11 * j) b) (omega (arith, length-drop (11 * j) b)) (below-drop 256 (11 * j) b low))
 
 proposals-fit : (b : List ℕ) → 64 ≤ length b → Below 256 b → Below (2 ^ 32) (proposalsOf 16 b)
@@ -144,7 +144,7 @@ module _ (s : Session) (z : Sized s) where
   pub below-session : Below 256 (sessionBytes s)
   below-session =
       let proposals = below-flat 256 (bytesOf 4) (s .proposals) 0 (λ k h. below-bytes 4 (getD (s .proposals) k 0)) in
-      let parties = below-flat 256 partyBytes (s .parties) noParty (λ k h. party-below (getD (s .parties) k noParty) (z .partiesFit k h)) in
+      let parties = below-flat 256 partyImage (s .parties) noParty (λ k h. party-below (getD (s .parties) k noParty) (z .partiesFit k h)) in
       let P = proposalsBytes (s .proposals) in
       let to1962 = below-append 256 (s .sheet) P (z .sheetFits) proposals in
       let to2986 = below-append 256 (s .sheet ++ P) (s .marks) to1962 (z .marksFit) in

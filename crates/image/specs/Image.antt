@@ -10,15 +10,15 @@ use Rattle.state.specs.declared.kept.Party.{Party}
 use Rattle.state.specs.declared.kept.Session.{Session}
 
 -- a party's 11: status 1, place 1, round 1, k 1, candidate 1, steps 2, decision 4
-abbrev pub partyBytes : Party → List ℕ
-partyBytes p =
+abbrev pub partyImage : Party → List ℕ
+partyImage p =
     p .status ∷ p .place ∷ p .round ∷ p .k ∷ p .candidate ∷ bytesOf 2 (p .steps) ++ bytesOf 4 (p .decision)
 
 abbrev pub proposalsBytes : List ℕ → List ℕ
 proposalsBytes xs = flat (map (bytesOf 4) xs)
 
 abbrev pub partiesBytes : List Party → List ℕ
-partiesBytes ps = flat (map partyBytes ps)
+partiesBytes ps = flat (map partyImage ps)
 
 abbrev pub sessionBytes : Session → List ℕ
 sessionBytes s = s .sheet ++ proposalsBytes (s .proposals) ++ s .marks ++ s .published ++ partiesBytes (s .parties)

@@ -52,7 +52,7 @@ pub fn proposals_of(bytes: &[u8]) -> [u32; 16]
     if bytes.len() != 3418 {
         return [0; 16];
     }
-    proposals::own_from(&bytes[1898..], 16)
+    proposals::numbers_from(&bytes[1898..], 16)
 }
 
 // The parties that the bytes say.

@@ -3,7 +3,7 @@ ghost use mathlib.Core.Path.{_≡_};
 ghost use mathlib.Core.List.{_++_};
 ghost use Prim.Native.Nat.{_≤_};
 ghost use lib.ListN.{length, drop};
-ghost use Rattle.image.specs.Image.{partyBytes, partiesBytes, partyFrom, partiesFrom};
+ghost use Rattle.image.specs.Image.{partyImage, partiesBytes, partyFrom, partiesFrom};
 use crate::slices;
 use state::Party;
 
@@ -26,7 +26,7 @@ fn party_from(s: &[u8]) -> Party
 // A party's 11 bytes, at the start of what is lent.
 fn put_party(o: &mut [u8], p: Party)
     requires { ⌜ 11 ≤ length (now o) ⌝ }
-    ensures { λ _. ⌜ now (o .exit) ≡ partyBytes p ++ drop 11 (now (o .entry)) ⌝ }
+    ensures { λ _. ⌜ now (o .exit) ≡ partyImage p ++ drop 11 (now (o .entry)) ⌝ }
 {
     o[0] = p.status;
     o[1] = p.place;

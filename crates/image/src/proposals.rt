@@ -11,7 +11,7 @@ use crate::slices;
 // The proposals that a slice holds, and zeros behind them.
 pub struct Proposals {
     pub count: usize,
-    pub own: [u32; 16],
+    pub numbers: [u32; 16],
 }
 
 // How many proposals a slice of this length holds; 0, which is no number of parties, where it is of no sheet's.
@@ -28,7 +28,7 @@ fn proposals_count(len: usize) -> usize
 }
 
 // The proposals of n parties.
-pub(crate) fn own_from(s: &[u8], n: usize) -> [u32; 16]
+pub(crate) fn numbers_from(s: &[u8], n: usize) -> [u32; 16]
     requires { ⌜ (n ≤ 16) × (4 * n ≤ length (now s)) ⌝ }
     ensures { λ r. ⌜ r ≡ filled 16 (proposalsOf n (now (s .entry))) ⌝ }
 {
@@ -44,11 +44,11 @@ pub(crate) fn own_from(s: &[u8], n: usize) -> [u32; 16]
 // The proposals of a slice: as many as it holds, or none where it is of no sheet's length.
 pub fn proposals_from(s: &[u8]) -> Proposals
     ensures { λ r. ⌜ (r .count ≤ 16) × (4 * r .count ≤ length (now (s .entry))) × ((n : ℕ) → 1 ≤ n → n ≤ 16 → (r .count ≡ n) ↔ (length (now (s .entry)) ≡ 4 * n)) ⌝ }
-    ensures { λ r. ⌜ r .own ≡ filled 16 (proposalsOf (r .count) (now (s .entry))) ⌝ }
+    ensures { λ r. ⌜ r .numbers ≡ filled 16 (proposalsOf (r .count) (now (s .entry))) ⌝ }
 {
     let count = proposals_count(s.len());
-    let own = own_from(s, count);
-    Proposals { count, own }
+    let numbers = numbers_from(s, count);
+    Proposals { count, numbers }
 }
 
 pub(crate) fn put_proposals(o: &mut [u8], proposals: [u32; 16])

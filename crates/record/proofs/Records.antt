@@ -14,33 +14,33 @@ use Rattle.sheet.specs.Lists.{flat}
 use Rattle.sheet.proofs.Parts.{written-behind}
 use Rattle.sheet.proofs.Flat.{flat-taken, length-flat}
 use Rattle.state.specs.declared.kept.Party.{Party}
-use Rattle.record.specs.Record.{partyBytes, recordLength, recordHead, recordBytes}
+use Rattle.record.specs.Record.{partyRecord, recordLength, recordHead, recordBytes}
 
 module _ (n : ℕ) (ps : List Party) where
   -- the head and the first k parties
   pub written : ℕ → List ℕ
-  written k = recordHead n ++ flat (map partyBytes (take k ps))
+  written k = recordHead n ++ flat (map partyRecord (take k ps))
 
   written-length : (k : ℕ) → k ≤ length ps → length (written k) ≡ 4 + 7 * k
   unfolding written
   written-length k h =
-      let bytes = length-flat partyBytes 7 (λ p. refl) (take k ps) in
+      let bytes = length-flat partyRecord 7 (λ p. refl) (take k ps) in
       let size = length-take-le k ps h in
       omega arith
 
-  written-more : (k : ℕ) (d : Party) → k < length ps → written k ++ partyBytes (getD ps k d) ≡ written (k + 1)
+  written-more : (k : ℕ) (d : Party) → k < length ps → written k ++ partyRecord (getD ps k d) ≡ written (k + 1)
   unfolding written
   written-more k d h =
-      append-assoc (recordHead n) (flat (map partyBytes (take k ps))) (partyBytes (getD ps k d))
-      ∙ ap (λ (z : List ℕ). recordHead n ++ z) (sym (flat-taken partyBytes d k ps h))
-      ∙ ap (λ (j : ℕ). recordHead n ++ flat (map partyBytes (take j ps))) (sym (add-one k))
+      append-assoc (recordHead n) (flat (map partyRecord (take k ps))) (partyRecord (getD ps k d))
+      ∙ ap (λ (z : List ℕ). recordHead n ++ z) (sym (flat-taken partyRecord d k ps h))
+      ∙ ap (λ (j : ℕ). recordHead n ++ flat (map partyRecord (take j ps))) (sym (add-one k))
 
   -- a turn: the party's bytes take their place behind those before it
   pub turn : (k : ℕ) (d : Party) (o out new : List ℕ) → k < length ps → out ≡ written k ++ drop (4 + 7 * k) o
-      → new ≡ partyBytes (getD ps k d) ++ drop 7 (take (length out - (4 + 7 * k)) (drop (4 + 7 * k) out))
+      → new ≡ partyRecord (getD ps k d) ++ drop 7 (take (length out - (4 + 7 * k)) (drop (4 + 7 * k) out))
       → putMid (4 + 7 * k) (length out - (4 + 7 * k)) out new ≡ written (k + 1) ++ drop (4 + 7 * (k + 1)) o
   turn k d o out new h eo en =
-      let party = partyBytes (getD ps k d) in
+      let party = partyRecord (getD ps k d) in
       let place : 4 + 7 * k + 7 ≡ 4 + 7 * (k + 1) = omega arith in
       written-behind (written k) party o out new (4 + 7 * k) 7 (written-length k (omega arith)) eo en
       ∙ ap (λ (i : ℕ). written k ++ (party ++ drop i o)) place
@@ -61,7 +61,7 @@ module _ (n : ℕ) (ps : List Party) where
       ap (drop (4 + 7 * k)) e ∙ drop-append-add (recordHead n) (drop 4 o₀) (7 * k) ∙ drop-drop (7 * k) 4 o₀ in
       eo
       ∙ ap (λ (z : List ℕ). written k ++ z) rest
-      ∙ ap (λ (j : ℕ). (recordHead n ++ flat (map partyBytes (take j ps))) ++ drop (4 + 7 * j) o₀) l
+      ∙ ap (λ (j : ℕ). (recordHead n ++ flat (map partyRecord (take j ps))) ++ drop (4 + 7 * j) o₀) l
 
   -- where there are so many parties and the record fits, it is what the two tests choose
   pub recorded : (o out : List ℕ) → n ≤ 16 → recordLength n ≤ length o

@@ -7,8 +7,8 @@ use Rattle.sheet.specs.Bytes.{bytesOf}
 use Rattle.state.specs.declared.kept.Party.{Party}
 
 -- each party in 7 bytes: status (1), own steps (2), decision (4, zero unless decided)
-abbrev pub partyBytes : Party → List ℕ
-partyBytes p = p .status ∷ (bytesOf 2 (p .steps) ++ bytesOf 4 (p .decision))
+abbrev pub partyRecord : Party → List ℕ
+partyRecord p = p .status ∷ (bytesOf 2 (p .steps) ++ bytesOf 4 (p .decision))
 
 abbrev pub recordLength : ℕ → ℕ
 recordLength n = 4 + 7 * n
@@ -19,4 +19,4 @@ recordHead n = bytesOf 2 (recordLength n) ++ (1 ∷ n ∷ [])
 
 -- then the parties
 abbrev pub recordBytes : ℕ → List Party → List ℕ
-recordBytes n parties = recordHead n ++ flat (map partyBytes (take n parties))
+recordBytes n parties = recordHead n ++ flat (map partyRecord (take n parties))

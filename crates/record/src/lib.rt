@@ -5,7 +5,7 @@ ghost use mathlib.Core.Bool.{_&&_, cond};
 ghost use Prim.Native.Nat.{_≤_};
 ghost use lib.Dec.{leb};
 ghost use lib.ListN.{length, drop};
-ghost use Rattle.record.specs.Record.{partyBytes, recordLength, recordHead, recordBytes};
+ghost use Rattle.record.specs.Record.{partyRecord, recordLength, recordHead, recordBytes};
 use state::Party;
 
 // The record's first four bytes.
@@ -23,7 +23,7 @@ fn put_head(o: &mut [u8], n: u8)
 // A party's seven bytes, at the start of what is lent.
 fn put_party(o: &mut [u8], p: Party)
     requires { ⌜ 7 ≤ length (now o) ⌝ }
-    ensures { λ _. ⌜ now (o .exit) ≡ partyBytes p ++ drop 7 (now (o .entry)) ⌝ }
+    ensures { λ _. ⌜ now (o .exit) ≡ partyRecord p ++ drop 7 (now (o .entry)) ⌝ }
 {
     let steps = p.steps;
     let decision = p.decision;

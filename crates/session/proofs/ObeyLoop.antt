@@ -23,20 +23,20 @@ use Rattle.session.proofs.Turns.{step-none}
 use Rattle.session.proofs.Schedules.{all-taken, all-at, obeyed-more}
 use Rattle.session.proofs.Obeying.{Good, good, obeyed-reached, step-live, stop-over, Shows, shows-acted, shows-stopped}
 
-pub record Going (sheet proposals schedule : List ℕ) (n : ℕ) (own : List ℕ) (j : ℕ) (parties : List Party) (marks published : List ℕ) : Type 0 where
+pub record Going (sheet proposals schedule : List ℕ) (n : ℕ) (kept : List ℕ) (j : ℕ) (parties : List Party) (marks published : List ℕ) : Type 0 where
   pub rules : Rules6 sheet
   pub size : n ≡ getD sheet 5 0
   pub count : length proposals ≡ n
   pub good : T (all (byteOk n) schedule)
-  pub copy : own ≡ filled 16 proposals
+  pub copy : kept ≡ filled 16 proposals
   pub inside : j ≤ length schedule
   pub shows : Shows (ran sheet proposals (take j schedule)) parties marks published
 
-pub going-first : {sheet proposals schedule : List ℕ} {n : ℕ} (own : List ℕ) (parties : List Party) → Rules6 sheet
-    → n ≡ getD sheet 5 0 → length proposals ≡ n → T (all (byteOk n) schedule) → own ≡ filled 16 proposals
+pub going-first : {sheet proposals schedule : List ℕ} {n : ℕ} (kept : List ℕ) (parties : List Party) → Rules6 sheet
+    → n ≡ getD sheet 5 0 → length proposals ≡ n → T (all (byteOk n) schedule) → kept ≡ filled 16 proposals
     → parties ≡ map freshParty (from 1 n) ++ replicate (16 - n) noParty
-    → Going sheet proposals schedule n own 0 parties (replicate 1024 0) (replicate 256 0)
-going-first own parties rules size count good copy e =
+    → Going sheet proposals schedule n kept 0 parties (replicate 1024 0) (replicate 256 0)
+going-first kept parties rules size count good copy e =
     record {
       rules = rules;
       size = size;
@@ -51,8 +51,8 @@ going-first own parties rules size count good copy e =
       };
     }
 
-module _ {sheet proposals schedule : List ℕ} {n : ℕ} {own : List ℕ} {j : ℕ} {parties : List Party} {marks published : List ℕ}
-    (g : Going sheet proposals schedule n own j parties marks published) where
+module _ {sheet proposals schedule : List ℕ} {n : ℕ} {kept : List ℕ} {j : ℕ} {parties : List Party} {marks published : List ℕ}
+    (g : Going sheet proposals schedule n kept j parties marks published) where
   pub going-end : length schedule ≤ j → parties ≡ ran sheet proposals schedule .parties
   going-end h = g .shows .ofParties ∙ ap (λ (bs : List ℕ). ran sheet proposals bs .parties) (take-all j schedule h)
 
@@ -99,7 +99,7 @@ module _ {sheet proposals schedule : List ℕ} {n : ℕ} {own : List ℕ} {j : �
         record { rules = g .rules .before; parties = g .size; least = going-byte .least; most = going-byte .most; party = rule; live = live }
 
     module _ (after : List Party) (ms us : List ℕ) where
-      on : Shows (entry s b) after ms us → Going sheet proposals schedule n own (j + 1) after ms us
+      on : Shows (entry s b) after ms us → Going sheet proposals schedule n kept (j + 1) after ms us
       unfolding s
       on S =
           record {
@@ -114,34 +114,34 @@ module _ {sheet proposals schedule : List ℕ} {n : ℕ} {own : List ℕ} {j : �
           }
 
       pub going-act : p .status < 2 → b < 128 → (q : Party) → after ≡ set parties (b % 128 - 1) q
-          → q ≡ counted (partyAfter (layoutOf sheet) own marks published (b % 128) p (placeOf (p .place)))
+          → q ≡ counted (partyAfter (layoutOf sheet) kept marks published (b % 128) p (placeOf (p .place)))
           → ms ≡ marksAfter (layoutOf sheet) (b % 128) p marks (placeOf (p .place))
-          → us ≡ publishedAfter (b % 128) p published (placeOf (p .place)) → Going sheet proposals schedule n own (j + 1) after ms us
+          → us ≡ publishedAfter (b % 128) p published (placeOf (p .place)) → Going sheet proposals schedule n kept (j + 1) after ms us
       unfolding s
       going-act live l q put eq em eu =
           let status = same in
           let step = going-byte .steps l s ∙ step-live s (b % 128) (omega arith) in
           on
           (rw step
-          (shows-acted (g .shows) (b % 128) after ms us q put (layoutOf sheet) own (reached-layout sheet proposals (g .rules) reached)
+          (shows-acted (g .shows) (b % 128) after ms us q put (layoutOf sheet) kept (reached-layout sheet proposals (g .rules) reached)
           (reached-proposals sheet proposals (g .rules) reached ∙ sym (g .copy)) eq em eu))
 
       pub going-stop : 128 ≤ b → (q : Party) → after ≡ set parties (b % 128 - 1) q → q ≡ stoppedParty p → ms ≡ marks → us ≡ published
-          → Going sheet proposals schedule n own (j + 1) after ms us
+          → Going sheet proposals schedule n kept (j + 1) after ms us
       unfolding s
       going-stop l q put eq em eu = on (rw (going-byte .stops l s) (shows-stopped (g .shows) (b % 128) after ms us q put eq em eu))
 
       -- who has decided or stopped stays as it is
-      pub going-over : 2 ≤ p .status → after ≡ parties → ms ≡ marks → us ≡ published → Going sheet proposals schedule n own (j + 1) after ms us
+      pub going-over : 2 ≤ p .status → after ≡ parties → ms ≡ marks → us ≡ published → Going sheet proposals schedule n kept (j + 1) after ms us
       unfolding s
       going-over over ep em eu =
           let S = g .shows in
           on
-          (rw kept
+          (rw stays
           (record { ofParties = ep ∙ S .ofParties; ofMarks = em ∙ S .ofMarks; ofPublished = eu ∙ S .ofPublished }))
         where
-          kept : entry s b ≡ s
-          kept =
+          stays : entry s b ≡ s
+          stays =
               let status = same in
               let most = rule .status in
               ⊎-elim

@@ -59,7 +59,7 @@ fn obey(sheet: &[u8], proposals: &[u32], schedule: &[u8], n: u8) -> [Party; 16]
     requires { ⌜ (Rules6 (now sheet)) × (n ≡ getD (now sheet) 5 0) × (length (now proposals) ≡ n) × (T (all (byteOk n) (now schedule))) ⌝ }
     ensures { λ r. ⌜ r ≡ ran (now (sheet .entry)) (now (proposals .entry)) (now (schedule .entry)) .parties ⌝ }
 {
-    let own = opening::proposals_copy(proposals);
+    let kept = opening::proposals_copy(proposals);
     let mut parties = opening::fresh_parties(n);
     let mut marks = [0u8; 1024];
     let mut published = [0u8; 256];
@@ -71,7 +71,15 @@ fn obey(sheet: &[u8], proposals: &[u32], schedule: &[u8], n: u8) -> [Party; 16]
         let p = parties[at];
         if p.status < 2 {
             match b {
-                0..=127 => parties[at] = act::act(sheet, &own, &mut marks, &mut published, p, i, n),
+                0..=127 => parties[at] = act::act(
+                    sheet,
+                    &kept,
+                    &mut marks,
+                    &mut published,
+                    p,
+                    i,
+                    n,
+                ),
                 _ => parties[at] = parts::stop_party(p),
             }
         }

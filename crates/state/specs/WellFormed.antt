@@ -13,8 +13,8 @@ use Rattle.state.specs.declared.kept.Session.{Session}
 -- the carried sheet is accepted, and the copy past it is zero
 abbrev pub carriedOk : List ℕ → Bool
 carriedOk sheet =
-    let own = carriedOf sheet in
-    eqb (checkAnswer own .number) 0 && all (λ j. eqb (getD sheet j 0) 0) (from (length own) (1898 - length own))
+    let carried = carriedOf sheet in
+    eqb (checkAnswer carried .number) 0 && all (λ j. eqb (getD sheet j 0) 0) (from (length carried) (1898 - length carried))
 
 -- marks are 0 to 2; past the unit count they are zero
 abbrev pub marksOk : ℕ → List ℕ → Bool

@@ -72,11 +72,11 @@ fn fresh_session(sheet: &[u8], proposals: &[u32], n: u8) -> Session
     ensures { λ r. ⌜ r ≡ freshSession (now (sheet .entry)) (now (proposals .entry)) n ⌝ }
 {
     let copy = sheet_copy(sheet);
-    let own = proposals_copy(proposals);
+    let kept = proposals_copy(proposals);
     let parties = fresh_parties(n);
     Session {
         sheet: copy,
-        proposals: own,
+        proposals: kept,
         marks: [0; 1024],
         published: [0; 256],
         parties,

@@ -28,20 +28,20 @@ count c = c .proposals-from .result .count
 
 -- the proposals that are lent
 abbrev lent : tie.After-proposals-from → List ℕ
-lent c = take (count c) (c .proposals-from .result .own)
+lent c = take (count c) (c .proposals-from .result .numbers)
 
 lent-is : (c : tie.After-proposals-from) → lent c ≡ proposalsOf (count c) (bytes c)
-lent-is c = front (bytes c) (c .proposals-from .result .own) (count c) (c .proposals-from .ensures .1)
+lent-is c = front (bytes c) (c .proposals-from .result .numbers) (count c) (c .proposals-from .ensures .1)
 
-array-share-prefix-own : tie.Need-array-share-prefix-own
-array-share-prefix-own c =
+array-share-prefix-numbers : tie.Need-array-share-prefix-numbers
+array-share-prefix-numbers c =
     let given = c .before in
-    front-fits (bytes given) (given .proposals-from .result .own) (count given) (given .proposals-from .ensures .1)
+    front-fits (bytes given) (given .proposals-from .result .numbers) (count given) (given .proposals-from .ensures .1)
 
 slice-aggregate-opens : tie.Need-slice-aggregate-opens
 slice-aggregate-opens c =
     let given = c .before .before in
-    sym (front-length (bytes given) (given .proposals-from .result .own) (count given) (given .proposals-from .ensures .1))
+    sym (front-length (bytes given) (given .proposals-from .result .numbers) (count given) (given .proposals-from .ensures .1))
 
 abbrev given : tie.After-opens → tie.After-proposals-from
 given c = c .before .before .before
@@ -83,7 +83,7 @@ returns-3 c =
     let told = here .before in
     let g = given (told .before .before) in
     open-filled (sheet g) (bytes g) (start g .args .session .now) _ (g .proposals-from .ensures .0 .2) (done-is told)
-    (g .proposals-from .result .own) (filled .fresh-parties .result) (g .proposals-from .ensures .1) (filled .fresh-parties .ensures) (here .if1 .left) _
+    (g .proposals-from .result .numbers) (filled .fresh-parties .result) (g .proposals-from .ensures .1) (filled .fresh-parties .ensures) (here .if1 .left) _
     (written .write-fresh .ensures)
 
 pub sepalsail-open-spec : {M : Type 1} → statement M
@@ -91,7 +91,7 @@ sepalsail-open-spec =
     tie.close
     (tie.spec
     (λ c κs. search needs)
-    array-share-prefix-own
+    array-share-prefix-numbers
     slice-aggregate-opens
     (λ c κs. search needs)
     (λ c. search needs)

@@ -25,14 +25,14 @@ abbrev count : tie.After-proposals-from → ℕ
 count c = c .proposals-from .result .count
 
 -- the proposals that are lent
-lent-is : (c : tie.After-proposals-from) → take (count c) (c .proposals-from .result .own) ≡ proposalsOf (count c) (entry c .args .proposals .now)
-lent-is c = front (entry c .args .proposals .now) (c .proposals-from .result .own) (count c) (c .proposals-from .ensures .1)
+lent-is : (c : tie.After-proposals-from) → take (count c) (c .proposals-from .result .numbers) ≡ proposalsOf (count c) (entry c .args .proposals .now)
+lent-is c = front (entry c .args .proposals .now) (c .proposals-from .result .numbers) (count c) (c .proposals-from .ensures .1)
 
-lent-count : (c : tie.After-proposals-from) → count c ≡ length (take (count c) (c .proposals-from .result .own))
-lent-count c = sym (front-length (entry c .args .proposals .now) (c .proposals-from .result .own) (count c) (c .proposals-from .ensures .1))
+lent-count : (c : tie.After-proposals-from) → count c ≡ length (take (count c) (c .proposals-from .result .numbers))
+lent-count c = sym (front-length (entry c .args .proposals .now) (c .proposals-from .result .numbers) (count c) (c .proposals-from .ensures .1))
 
-lent-fits : (c : tie.After-proposals-from) → count c ≤ length (c .proposals-from .result .own)
-lent-fits c = front-fits (entry c .args .proposals .now) (c .proposals-from .result .own) (count c) (c .proposals-from .ensures .1)
+lent-fits : (c : tie.After-proposals-from) → count c ≤ length (c .proposals-from .result .numbers)
+lent-fits c = front-fits (entry c .args .proposals .now) (c .proposals-from .result .numbers) (count c) (c .proposals-from .ensures .1)
 
 returns : tie.Need-returns
 returns c =
@@ -59,9 +59,9 @@ returns-2 c =
     let out = a .out .now in
     let n = count f in
     let fits = f .proposals-from .ensures .0 .2 in
-    let own = proposalsFor sheet bytes in
+    let numbers = proposalsFor sheet bytes in
     let all = sym (unheard lastIndex (a .schedule .now) (short .if1 .left)) in
-    let answer : List ℕ → Answer = λ s. unlessUnopened sheet bytes (runAnswer sheet own s (length out)) in
+    let answer : List ℕ → Answer = λ s. unlessUnopened sheet bytes (runAnswer sheet numbers s (length out)) in
     let told =
     ran .run .ensures .0
     ∙ ap (λ (xs : List ℕ). runAnswer sheet xs (a .schedule .now) (length out)) (lent-is f)
@@ -71,7 +71,7 @@ returns-2 c =
     ran .run .ensures .1
     ∙ ap (λ (xs : List ℕ). runOut sheet xs (a .schedule .now) out) (lent-is f)
     ∙ out-is sheet bytes n fits (a .schedule .now) out
-    ∙ ap (λ (s : List ℕ). cond (eqb (answer s .number) 0) (runOut sheet own (a .schedule .now) out) out) all in
+    ∙ ap (λ (s : List ℕ). cond (eqb (answer s .number) 0) (runOut sheet numbers (a .schedule .now) out) out) all in
     (c .verdict .ensures ∙ ap answerWord told, left)
 
 pub sepalsail-run-spec : {M : Type 1} → statement M

@@ -16,7 +16,7 @@ returns-2 : tie.Need-returns-2
 returns-2 c =
     let past = c .before .before in
     let b = past .before .before .args .bytes .now in
-    where-held _ _ _ (eq-eqb (length b) 3418 (past .if1 .left)) (c .own-from .ensures ∙ ap (proposalsOf 16) (part-to-end b 1898))
+    where-held _ _ _ (eq-eqb (length b) 3418 (past .if1 .left)) (c .numbers-from .ensures ∙ ap (proposalsOf 16) (part-to-end b 1898))
 
 pub proposals-of-spec : {M : Type 1} → statement M
 proposals-of-spec =

@@ -4,7 +4,7 @@ use native.Mathlib.Omega.{arith}
 use borrow.Author.Needs.{needs}
 use lib.ListN.{length-set}
 use lib.Seq.{sets-eq}
-use Rattle.record.specs.Record.{partyBytes}
+use Rattle.record.specs.Record.{partyRecord}
 use Rattle.record.proofs.put_party.Statement.{statement}
 use Rattle.record.proofs.put_party.Tie as tie
 
@@ -27,7 +27,7 @@ slice-write-o-7 : tie.Need-slice-write-o-7
 slice-write-o-7 c = simp length-set (omega arith)
 
 returns : tie.Need-returns
-returns c = simp div-one (simp div-one at (sets-eq (partyBytes (c .args .p)) (c .args .o .now) 0 (omega arith)))
+returns c = simp div-one (simp div-one at (sets-eq (partyRecord (c .args .p)) (c .args .o .now) 0 (omega arith)))
 
 pub put-party-spec : {M : Type 1} → statement M
 put-party-spec =

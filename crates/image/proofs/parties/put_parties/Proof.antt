@@ -5,13 +5,13 @@ use native.Mathlib.Omega.{arith}
 use borrow.Author.Needs.{needs}
 use lib.ListN.{length, length-take, length-drop}
 use Rattle.state.specs.Session.{noParty}
-use Rattle.image.specs.Image.{partyBytes}
+use Rattle.image.specs.Image.{partyImage}
 use Rattle.image.proofs.Written.{InTurn, turn, turned}
 use Rattle.image.proofs.parties.put_parties.Statement.{statement}
 use Rattle.image.proofs.parties.put_parties.Tie as tie
 
 abbrev Inv-loop : tie.InvT-loop
-Inv-loop o₀ parties j₀ o j = (j ≤ 16) × (length o ≡ length o₀) × InTurn partyBytes 11 parties o₀ o j
+Inv-loop o₀ parties j₀ o j = (j ≤ 16) × (length o ≡ length o₀) × InTurn partyImage 11 parties o₀ o j
 
 abbrev μ-loop : tie.MeasureT-loop
 μ-loop o₀ parties j₀ o j = 16 - j
@@ -33,7 +33,7 @@ loop-again c =
     let all = whole start in (
       search needs,
       omega (arith, c .before .o .given .1),
-      turn partyBytes 11 (start .args .t2) (start .args .o .now) (l .o) (call .put-party .last .0) (l .j) noParty (omega arith) refl
+      turn partyImage 11 (start .args .t2) (start .args .o .now) (l .o) (call .put-party .last .0) (l .j) noParty (omega arith) refl
           (call .put-party .ensures) (l .inv .2),
     )
 
@@ -43,7 +43,7 @@ returns c =
     let start = c .before .before .before in
     let all = whole start in
     let end : l .j ≡ 16 = omega arith in
-    turned partyBytes 11 (start .args .t2) (start .args .o .now) (l .o) (l .j) (omega arith) (l .inv .2) ∙ rw end
+    turned partyImage 11 (start .args .t2) (start .args .o .now) (l .o) (l .j) (omega arith) (l .inv .2) ∙ rw end
 
 pub put-parties-spec : {M : Type 1} → statement M
 put-parties-spec =

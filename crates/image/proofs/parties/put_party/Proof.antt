@@ -4,7 +4,7 @@ use native.Mathlib.Omega.{arith}
 use borrow.Author.Needs.{needs}
 use lib.ListN.{length-set}
 use lib.Seq.{sets-eq}
-use Rattle.image.specs.Image.{partyBytes}
+use Rattle.image.specs.Image.{partyImage}
 use Rattle.image.proofs.parties.put_party.Statement.{statement}
 use Rattle.image.proofs.parties.put_party.Tie as tie
 
@@ -14,7 +14,7 @@ same-length c = simp length-set
 returns : tie.Need-returns
 returns c =
     let args = c .before .before .before .before .before .before .args in
-    simp div-one (simp div-one at (sets-eq (partyBytes (args .p)) (args .o .now) 0 (omega arith)))
+    simp div-one (simp div-one at (sets-eq (partyImage (args .p)) (args .o .now) 0 (omega arith)))
 
 pub put-party-spec : {M : Type 1} → statement M
 put-party-spec =

@@ -11,11 +11,11 @@ use Rattle.session.proofs.runs.obey.Statement.{statement}
 use Rattle.session.proofs.runs.obey.Tie as tie
 
 abbrev Inv-loop : tie.InvT-loop
-Inv-loop sheet proposals schedule n own parties₀ marks₀ published₀ j₀ parties marks published j =
-    Going sheet proposals schedule n own j parties marks published
+Inv-loop sheet proposals schedule n kept parties₀ marks₀ published₀ j₀ parties marks published j =
+    Going sheet proposals schedule n kept j parties marks published
 
 abbrev μ-loop : tie.MeasureT-loop
-μ-loop sheet proposals schedule n own parties₀ marks₀ published₀ j₀ parties marks published j = length schedule - j
+μ-loop sheet proposals schedule n kept parties₀ marks₀ published₀ j₀ parties marks published j = length schedule - j
 
 loop-holds : tie.Need-loop-holds Inv-loop μ-loop
 loop-holds c =

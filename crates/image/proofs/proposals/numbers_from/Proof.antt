@@ -7,8 +7,8 @@ use borrow.Author.Needs.{needs}
 use Rattle.sheet.specs.Bytes.{num}
 use Rattle.state.proofs.Copies.{Front, front-first, front-on, front-end, range-at, length-range}
 use Rattle.image.specs.Image.{proposalsOf}
-use Rattle.image.proofs.proposals.own_from.Statement.{statement}
-use Rattle.image.proofs.proposals.own_from.Tie as tie
+use Rattle.image.proofs.proposals.numbers_from.Statement.{statement}
+use Rattle.image.proofs.proposals.numbers_from.Tie as tie
 
 abbrev Inv-loop : tie.InvT-loop
 Inv-loop s n proposals₀ j₀ proposals j = (j ≤ n) × Front 16 0 (proposalsOf n s) proposals j
@@ -40,8 +40,8 @@ returns c =
     let size = length-range (λ j. num (a .s .now) (4 * j) 4) 0 (a .n) in
     front-end 16 0 (proposalsOf (a .n) (a .s .now)) (l .proposals) (l .j) (omega arith) (l .inv .1)
 
-pub own-from-spec : {M : Type 1} → statement M
-own-from-spec =
+pub numbers-from-spec : {M : Type 1} → statement M
+numbers-from-spec =
     tie.close
     (tie.spec
     Inv-loop
