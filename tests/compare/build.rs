@@ -1,10 +1,10 @@
-//! Links the static archive named by SEPALSAIL_LIB (the path of the .a file).
-//! Without that variable, or with the feature `model-only`, nothing is linked;
-//! the cfg `archive` says which of the two happened.
+//! Has the programs linked with the static archive named by SEPALSAIL_LIB (the path of the .a
+//! file). Without that variable, or with the feature `model-only`, nothing is linked; the cfg
+//! `archive` says which of the two happened. Only the programs' last link reads the archive, so
+//! that the library part can be compiled before there is one.
 
 use std::env;
-use std::fs;
-use std::path::{Path, PathBuf};
+use std::path;
 
 fn main() {
     println!("cargo::rustc-check-cfg=cfg(archive)");
@@ -16,16 +16,8 @@ fn main() {
     let Some(given) = env::var_os("SEPALSAIL_LIB") else {
         return;
     };
-    let given = PathBuf::from(given);
-    let archive = fs::canonicalize(&given)
-        .unwrap_or_else(|why| panic!("SEPALSAIL_LIB={}: {why}", given.display()));
-    let out = env::var_os("OUT_DIR").expect("cargo sets OUT_DIR");
-    let out = Path::new(&out);
-    // A copy under a fixed name, so that any file name can be linked.
-    fs::copy(&archive, out.join("libsepalsail_archive.a")).expect("the archive can be copied");
-    println!("cargo::rerun-if-changed={}", archive.display());
-    println!("cargo::rustc-link-search=native={}", out.display());
-    println!("cargo::rustc-link-lib=static=sepalsail_archive");
+    let archive = path::absolute(&given).expect("SEPALSAIL_LIB is a path");
+    println!("cargo::rustc-link-arg-bins={}", archive.display());
     println!("cargo::rustc-env=SEPALSAIL_ARCHIVE={}", archive.display());
     println!("cargo::rustc-cfg=archive");
 }

@@ -19,6 +19,10 @@ use std::path::PathBuf;
 use std::process::ExitCode;
 use std::time::{SystemTime, UNIX_EPOCH};
 
+// Cargo links this program anew where the archive is newer.
+#[cfg(archive)]
+const _: &[u8] = include_bytes!(env!("SEPALSAIL_ARCHIVE"));
+
 const USAGE: &str = "compare [--seconds N] [--seed S] \
                      [--only sheets|sessions|runs|lister|huge] [--lister PATH]";
 

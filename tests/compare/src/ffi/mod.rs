@@ -3,7 +3,8 @@
 //! only for reading must be unchanged.
 //!
 //! The library side is the archive of SEPALSAIL_LIB; with the feature `model-only` it is the
-//! model itself; with neither it is missing, and `LINKED` says so.
+//! model itself; with neither it is missing, and `LINKED` says so. It is missing too in this
+//! crate's own tests, which are of the model alone.
 
 // Without any of the calls there is nothing to guard.
 #![cfg_attr(
@@ -13,10 +14,10 @@
 
 mod guard;
 pub mod in_place;
-#[cfg(archive)]
+#[cfg(all(archive, not(test)))]
 #[path = "archive.rs"]
 mod raw;
-#[cfg(not(archive))]
+#[cfg(any(not(archive), test))]
 #[path = "stand_in.rs"]
 mod raw;
 
@@ -31,11 +32,11 @@ pub enum Linked {
     Nothing,
 }
 
-#[cfg(archive)]
+#[cfg(all(archive, not(test)))]
 pub const LINKED: Linked = Linked::Archive(env!("SEPALSAIL_ARCHIVE"));
 #[cfg(feature = "model-only")]
 pub const LINKED: Linked = Linked::Model;
-#[cfg(not(any(archive, feature = "model-only")))]
+#[cfg(all(any(not(archive), test), not(feature = "model-only")))]
 pub const LINKED: Linked = Linked::Nothing;
 
 /// The library's answer, and what it did to memory that it should have left alone.

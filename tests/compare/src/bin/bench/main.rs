@@ -9,6 +9,10 @@ use compare::ffi::{Linked, LINKED};
 use std::process::ExitCode;
 use std::time::Duration;
 
+// Cargo links this program anew where the archive is newer.
+#[cfg(archive)]
+const _: &[u8] = include_bytes!(env!("SEPALSAIL_ARCHIVE"));
+
 mod calls;
 mod check;
 mod plain_check;
