@@ -49,15 +49,21 @@ static void run(void) {
 /* how deep a call goes on a stack filled with this byte; each two calls begin at another alignment */
 static size_t depth_on(void (*call)(void), uint8_t filling) {
     static ucontext_t inside, outside;
+    static uint8_t untouched[4096];
     static unsigned turn;
     memset(stack, filling, sizeof stack);
+    memset(untouched, filling, sizeof untouched);
     getcontext(&inside);
     inside.uc_stack.ss_sp = stack;
     inside.uc_stack.ss_size = sizeof stack - 16 * (turn++ / 2 % 4);
     inside.uc_link = &outside;
     makecontext(&inside, call, 0);
     swapcontext(&outside, &inside);
+    /* the call's caller wrote at the top: a changed byte is found before the end, by whole pieces first, which is quicker */
     size_t lowest = 0;
+    while (memcmp(stack + lowest, untouched, sizeof untouched) == 0) {
+        lowest += sizeof untouched;
+    }
     while (stack[lowest] == filling) {
         lowest++;
     }
