@@ -6,6 +6,7 @@ use mathlib.Core.List.{List}
 use native.Mathlib.Decide.{ℕ-discrete}
 use native.Mathlib.Omega.{arith}
 use lib.ListN.{length, getD}
+use Rattle.sheet.specs.Rows.{partiesOf}
 use Rattle.sheet.specs.Words.{Rules6}
 use Rattle.sheet.proofs.Folds.{lt-or-le}
 use Rattle.state.specs.Session.{layout, partyOf}
@@ -30,14 +31,14 @@ pub record Fits (p : Party) : Type 0 where
   pub decision : p .decision < 256 ^ 4
 
 module _ (sheet proposals : List ℕ) (o : Opens sheet proposals) (words : (j : ℕ) → getD proposals j 0 < 2 ^ 32)
-    {s : Session} (R : Reached sheet proposals s) (i : ℕ) (least : 1 ≤ i) (most : i ≤ getD sheet 5 0) where
+    {s : Session} (R : Reached sheet proposals s) (i : ℕ) (least : 1 ≤ i) (most : i ≤ partiesOf sheet) where
   abbrev p : Party
   p = partyOf (s .parties) i
 
   rule : PartyRule (layout s .parties) (s .published) i p
   rule = reached-well-formed sheet proposals (rules o) (o .count) R .parties i least (omega (arith, reached-parties sheet proposals (rules o) R))
 
-  demand : Demand (getD sheet 5 0) proposals s
+  demand : Demand (partiesOf sheet) proposals s
   demand = of-reached sheet proposals o s R
 
   pub fits : Fits p
@@ -49,7 +50,7 @@ module _ (sheet proposals : List ℕ) (o : Opens sheet proposals) (words : (j : 
 
 -- ---- a party that is not at place 0 has taken an own step
 
-module _ (sheet proposals : List ℕ) (R6 : Rules6 sheet) (i : ℕ) (least : 1 ≤ i) (most : i ≤ getD sheet 5 0) where
+module _ (sheet proposals : List ℕ) (R6 : Rules6 sheet) (i : ℕ) (least : 1 ≤ i) (most : i ≤ partiesOf sheet) where
   abbrev Begun : Party → Type 0
   Begun p = (p .place ≡ 0) ⊎ (1 ≤ p .steps)
 
@@ -76,7 +77,7 @@ module _ (sheet proposals : List ℕ) (R6 : Rules6 sheet) (i : ℕ) (least : 1 �
       by (no e) = subst Begun (sym (other e)) before
 
   begun : {s : Session} → Reached sheet proposals s → Begun (partyOf (s .parties) i)
-  begun here = inl (ap (λ (p : Party). p .place) (fresh-party (getD sheet 5 0) i least most))
+  begun here = inl (ap (λ (p : Party). p .place) (fresh-party (partiesOf sheet) i least most))
   begun (by-step {t} j a b R) =
       let before = begun R in
       begun-after (λ k. partyOf (step t k .parties) i) (partyOf (t .parties) i) j (step-own t (seated R) before) (step-other t j a i least) before

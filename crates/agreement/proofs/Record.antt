@@ -7,6 +7,7 @@ use native.Mathlib.Omega.{arith}
 use lib.Dec.{T}
 use lib.ListN.{length, getD, take, drop}
 use lib.Seq.{drop-append-add, getD-drop}
+use Rattle.sheet.specs.Rows.{partiesOf}
 use Rattle.sheet.specs.Lists.{flat, all}
 use Rattle.sheet.specs.Bytes.{num}
 use Rattle.answers.specs.Answers.{done}
@@ -73,10 +74,10 @@ module _ (n : ℕ) (ps : List Party) (rest : List ℕ) (i : ℕ) (least : 1 ≤ 
 -- ---- demand 3 in the record
 
 module _ (sheet proposals : List ℕ) (o : Opens sheet proposals) (words : (j : ℕ) → getD proposals j 0 < 2 ^ 32)
-    (schedule : List ℕ) (good : T (all (byteOk (getD sheet 5 0)) schedule))
-    (out : List ℕ) (room : recordLength (getD sheet 5 0) ≤ length out) where
+    (schedule : List ℕ) (good : T (all (byteOk (partiesOf sheet)) schedule))
+    (out : List ℕ) (room : recordLength (partiesOf sheet) ≤ length out) where
   abbrev n : ℕ
-  n = getD sheet 5 0
+  n = partiesOf sheet
 
   abbrev s : Session
   s = ran sheet proposals schedule

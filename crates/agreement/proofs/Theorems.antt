@@ -3,7 +3,7 @@ use Prim.Native.Nat.{ℕ}
 use mathlib.Core.List.{List}
 use mathlib.Core.Path.{sym, _∙_, subst}
 use lib.Dec.{T}
-use lib.ListN.{getD}
+use Rattle.sheet.specs.Rows.{partiesOf}
 use Rattle.agreement.specs.Demand.{Opens, Demand, OfReached, OfSchedule, OfCalls, OfAll, OfBuilt}
 use Rattle.session.specs.Reach.{here, Reached}
 use Rattle.session.specs.Run.{byteOk, ran}
@@ -33,7 +33,7 @@ of-reached sheet proposals o s R =
       decides = reached-decides sheet proposals (rules o) R;
     }
 
-module _ (sheet proposals : List ℕ) (o : Opens sheet proposals) (schedule : List ℕ) (good : T (all (byteOk (getD sheet 5 0)) schedule)) where
+module _ (sheet proposals : List ℕ) (o : Opens sheet proposals) (schedule : List ℕ) (good : T (all (byteOk (partiesOf sheet)) schedule)) where
   pub reached : Reached sheet proposals (ran sheet proposals schedule)
   reached = obeyed-reached sheet proposals (rules o) here schedule good
 
@@ -50,7 +50,7 @@ module _ (sheet proposals : List ℕ) (o : Opens sheet proposals) (schedule : Li
       record {
         opens = sym (opens sheet proposals (o .accepted) (o .count));
         told = run-told sheet proposals (rules o) (o .count) schedule good;
-        demand = subst (Demand (getD sheet 5 0) proposals) (run-calls sheet proposals (rules o) (o .count) schedule good) (of-schedule .demand);
+        demand = subst (Demand (partiesOf sheet) proposals) (run-calls sheet proposals (rules o) (o .count) schedule good) (of-schedule .demand);
       }
 
 pub of-all : OfAll

@@ -4,6 +4,7 @@ use mathlib.Core.Path.{_≡_}
 use mathlib.Core.List.{List}
 use lib.ListN.{length, getD}
 use lib.Dec.{T, eqb}
+use Rattle.sheet.specs.Rows.{partiesOf}
 use Rattle.sheet.specs.Lists.{all}
 use Rattle.sheet.specs.Bytes.{num}
 use Rattle.answers.specs.Answers.{done}
@@ -22,7 +23,7 @@ use Rattle.session.specs.Reach.{Agreed, stepLimit, Reached}
 -- a sheet that the check accepts, and a proposal for each of its parties
 pub record Opens (sheet proposals : List ℕ) : Type 0 where
   pub accepted : checkAnswer sheet ≡ done
-  pub count : length proposals ≡ getD sheet 5 0
+  pub count : length proposals ≡ partiesOf sheet
 
 -- what demand 3 says of a session of n parties
 pub record Demand (n : ℕ) (proposals : List ℕ) (s : Session) : Type 0 where
@@ -37,19 +38,19 @@ pub record Demand (n : ℕ) (proposals : List ℕ) (s : Session) : Type 0 where
 
 -- ---- over the rules: any sequence of steps and stops from the fresh session
 abbrev pub OfReached : Type 0
-OfReached = (sheet proposals : List ℕ) → Opens sheet proposals → (s : Session) → Reached sheet proposals s → Demand (getD sheet 5 0) proposals s
+OfReached = (sheet proposals : List ℕ) → Opens sheet proposals → (s : Session) → Reached sheet proposals s → Demand (partiesOf sheet) proposals s
 
 -- ---- over schedules
 
 pub record OfSchedule (sheet proposals schedule : List ℕ) : Type 0 where
-  pub demand : Demand (getD sheet 5 0) proposals (ran sheet proposals schedule)
+  pub demand : Demand (partiesOf sheet) proposals (ran sheet proposals schedule)
   -- own steps are the acts that the step rules count along the schedule
   pub ownSteps :
-      (i : ℕ) → 1 ≤ i → i ≤ getD sheet 5 0
-      → partyOf (ran sheet proposals schedule .parties) i .steps ≡ acts (freshSession sheet proposals (getD sheet 5 0)) schedule i
+      (i : ℕ) → 1 ≤ i → i ≤ partiesOf sheet
+      → partyOf (ran sheet proposals schedule .parties) i .steps ≡ acts (freshSession sheet proposals (partiesOf sheet)) schedule i
   -- 3. a party that has as many step entries as its limit before any stop of its own has decided
   pub enough :
-      (i : ℕ) → 1 ≤ i → i ≤ getD sheet 5 0 → stepLimit (getD sheet 5 0) i ≤ stepsBefore i schedule
+      (i : ℕ) → 1 ≤ i → i ≤ partiesOf sheet → stepLimit (partiesOf sheet) i ≤ stepsBefore i schedule
       → partyOf (ran sheet proposals schedule .parties) i .status ≡ 2
 
 -- ---- 4. over the calls: any sequence of public step and stop calls on an opened session
@@ -60,12 +61,12 @@ pub record OfCalls (sheet proposals schedule : List ℕ) : Type 0 where
   -- no call is refused
   pub told : T (all (λ (t : Told). eqb (t .number) 0) (calledTold (opened sheet proposals) schedule))
   -- and the session that they leave is as demanded
-  pub demand : Demand (getD sheet 5 0) proposals (called (opened sheet proposals) schedule)
+  pub demand : Demand (partiesOf sheet) proposals (called (opened sheet proposals) schedule)
 
 -- every schedule of good bytes, as entries of the run and as calls
 abbrev pub OfAll : Type 0
 OfAll =
-    (sheet proposals : List ℕ) → Opens sheet proposals → (schedule : List ℕ) → T (all (byteOk (getD sheet 5 0)) schedule)
+    (sheet proposals : List ℕ) → Opens sheet proposals → (schedule : List ℕ) → T (all (byteOk (partiesOf sheet)) schedule)
     → OfSchedule sheet proposals schedule × OfCalls sheet proposals schedule
 
 -- ---- 5. a built sheet is accepted, so all of this holds of it with no condition
@@ -95,26 +96,26 @@ pub record OfRecord (sheet proposals schedule out : List ℕ) : Type 0 where
   -- 1. every party that has decided has decided the proposal of one same party, which has taken an own step
   pub holder : ℕ
   pub holderLeast : 1 ≤ holder
-  pub holderMost : holder ≤ getD sheet 5 0
+  pub holderMost : holder ≤ partiesOf sheet
   pub agreed :
-      (i : ℕ) → 1 ≤ i → i ≤ getD sheet 5 0 → statusIn (runOut sheet proposals schedule out) i ≡ 2
+      (i : ℕ) → 1 ≤ i → i ≤ partiesOf sheet → statusIn (runOut sheet proposals schedule out) i ≡ 2
       → decisionIn (runOut sheet proposals schedule out) i ≡ getD proposals (holder - 1) 0
   pub announced :
-      (i : ℕ) → 1 ≤ i → i ≤ getD sheet 5 0 → statusIn (runOut sheet proposals schedule out) i ≡ 2
+      (i : ℕ) → 1 ≤ i → i ≤ partiesOf sheet → statusIn (runOut sheet proposals schedule out) i ≡ 2
       → 1 ≤ stepsIn (runOut sheet proposals schedule out) holder
   -- 2. no party has more own steps than its limit, and one that has them has decided
-  pub most : (i : ℕ) → 1 ≤ i → i ≤ getD sheet 5 0 → stepsIn (runOut sheet proposals schedule out) i ≤ stepLimit (getD sheet 5 0) i
+  pub most : (i : ℕ) → 1 ≤ i → i ≤ partiesOf sheet → stepsIn (runOut sheet proposals schedule out) i ≤ stepLimit (partiesOf sheet) i
   pub decides :
-      (i : ℕ) → 1 ≤ i → i ≤ getD sheet 5 0 → stepLimit (getD sheet 5 0) i ≤ stepsIn (runOut sheet proposals schedule out) i
+      (i : ℕ) → 1 ≤ i → i ≤ partiesOf sheet → stepLimit (partiesOf sheet) i ≤ stepsIn (runOut sheet proposals schedule out) i
       → statusIn (runOut sheet proposals schedule out) i ≡ 2
   -- 3. and one that has as many step entries as its limit before any stop of its own has decided
   pub enough :
-      (i : ℕ) → 1 ≤ i → i ≤ getD sheet 5 0 → stepLimit (getD sheet 5 0) i ≤ stepsBefore i schedule
+      (i : ℕ) → 1 ≤ i → i ≤ partiesOf sheet → stepLimit (partiesOf sheet) i ≤ stepsBefore i schedule
       → statusIn (runOut sheet proposals schedule out) i ≡ 2
 
 -- every schedule of good bytes, with an output that the record fits, and proposals of 4 bytes
 abbrev pub OfRun : Type 0
 OfRun =
     (sheet proposals : List ℕ) → Opens sheet proposals → ((j : ℕ) → getD proposals j 0 < 2 ^ 32)
-    → (schedule : List ℕ) → T (all (byteOk (getD sheet 5 0)) schedule)
-    → (out : List ℕ) → recordLength (getD sheet 5 0) ≤ length out → OfRecord sheet proposals schedule out
+    → (schedule : List ℕ) → T (all (byteOk (partiesOf sheet)) schedule)
+    → (out : List ℕ) → recordLength (partiesOf sheet) ≤ length out → OfRecord sheet proposals schedule out

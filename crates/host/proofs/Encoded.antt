@@ -7,6 +7,7 @@ use native.Mathlib.Omega.{arith}
 use borrow.Author.Tests.{eq-eqb}
 use lib.Dec.{T}
 use lib.ListN.{length, getD}
+use Rattle.sheet.specs.Rows.{partiesOf}
 use Rattle.sheet.specs.Check.{within}
 use Rattle.sheet.proofs.Folds.{holds}
 use Rattle.state.specs.Session.{layout, partyOf}
@@ -60,7 +61,7 @@ module _ (s : Session) (z : Sized s) (tell : Session → Told) (go : Session →
 
 module _ (sheet proposals : List ℕ) (o : Opens sheet proposals) (low : Below 256 sheet) (words : (j : ℕ) → getD proposals j 0 < 2 ^ 32) where
   abbrev n : ℕ
-  n = getD sheet 5 0
+  n = partiesOf sheet
 
   module _ {s : Session} (R : Reached sheet proposals s) where
     formed : T (wellFormed s)

@@ -7,6 +7,7 @@ use mathlib.Core.Logic.{inl, inr, ⊎-elim}
 use native.Mathlib.Omega.{arith}
 use lib.Dec.{leb, leb→le}
 use lib.ListN.{length, getD, replicate}
+use Rattle.sheet.specs.Rows.{partiesOf}
 use Rattle.sheet.proofs.Folds.{all-from, lt-or-le}
 use Rattle.state.specs.Session.{noParty, filled, layout, partyOf}
 use Rattle.state.specs.Words.{PartyRule, WellFormed}
@@ -76,7 +77,7 @@ module _ (n : ℕ) (few : n ≤ 16) (published : List ℕ) (i : ℕ) (p : Party)
 
 module _ (sheet proposals : List ℕ) (o : Opens sheet proposals) (low : Below 256 sheet) (words : (j : ℕ) → getD proposals j 0 < 2 ^ 32)
     {s : Session} (R : Reached sheet proposals s) where
-  same : layout s .parties ≡ getD sheet 5 0
+  same : layout s .parties ≡ partiesOf sheet
   same = reached-parties sheet proposals (rules o) R
 
   few : layout s .parties ≤ 16

@@ -8,8 +8,9 @@ use native.Mathlib.Nat.{add-zero}
 use native.Mathlib.Omega.{arith}
 use borrow.Author.Tests.{lt-ltb, le-ltb, eq-eqb, ne-eqb}
 use lib.Dec.{ltb, eqb, T}
-use lib.ListN.{length, getD, take, drop}
+use lib.ListN.{length, take, drop}
 use lib.Seq.{length-take-le}
+use Rattle.sheet.specs.Rows.{partiesOf}
 use Rattle.sheet.specs.Lists.{firstBad}
 use Rattle.answers.specs.Answers.{Answer, answer, done}
 use Rattle.sheet.proofs.Folds.{either, held, failed}
@@ -49,7 +50,7 @@ module _ (last : ℕ) (sheet xs schedule : List ℕ) (long : last < length sched
   front = take last schedule
 
   abbrev ok : ℕ → Bool
-  ok = byteOk (getD sheet 5 0)
+  ok = byteOk (partiesOf sheet)
 
   abbrev bad : ℕ
   bad = firstBad ok 1 front
@@ -83,7 +84,7 @@ module _ (last : ℕ) (sheet xs schedule : List ℕ) (long : last < length sched
   -- where the opening is not refused
   module _ (e : eqb (openAnswer sheet xs .number) 0 ≡ true) where
     wholeAt : ℕ → Answer
-    wholeAt b = cond (eqb b 0) (cond (ltb 0 (recordLength (getD sheet 5 0))) (answer 11 0) done) (answer 8 (b - 1))
+    wholeAt b = cond (eqb b 0) (cond (ltb 0 (recordLength (partiesOf sheet))) (answer 11 0) done) (answer 8 (b - 1))
 
     whole-is : whole ≡ wholeAt (cond (eqb bad 0) (1 + last) bad)
     unfolding wholeAt
@@ -95,7 +96,7 @@ module _ (last : ℕ) (sheet xs schedule : List ℕ) (long : last < length sched
         let behind : 1 + last - 1 ≡ last = omega arith in
         let at : wholeAt (1 + last) ≡ answer 8 last = rw (ne-eqb (1 + last) 0 (λ z. omega arith), behind) in
         inl (
-          rw (e, d, lt-ltb 1 (recordLength (getD sheet 5 0)) (omega arith)),
+          rw (e, d, lt-ltb 1 (recordLength (partiesOf sheet)) (omega arith)),
           whole-is ∙ ap (λ (t : Bool). wholeAt (cond t (1 + last) bad)) d ∙ at,
         )
 

@@ -6,7 +6,8 @@ use mathlib.Core.List.{List, _++_, map}
 use mathlib.Core.Bool.{Bool, true, _&&_, cond}
 use borrow.Author.Tests.{eq-eqb, ne-eqb, le-leb}
 use lib.Dec.{eqb, leb}
-use lib.ListN.{length, getD, replicate}
+use lib.ListN.{length, replicate}
+use Rattle.sheet.specs.Rows.{partiesOf}
 use Rattle.sheet.specs.Lists.{from}
 use Rattle.answers.specs.Answers.{Answer, answer, done, answerOf}
 use Rattle.answers.specs.declared.Refusal.{Refusal}
@@ -33,7 +34,7 @@ module _ (sheet bytes session : List ℕ) (count : ℕ) (fits : (m : ℕ) → 1 
   Answers w now = (w ≡ answerWord (hostOpen sheet bytes (length session))) × (now ≡ openBytes sheet bytes session)
 
   abbrev fresh : List ℕ
-  fresh = sessionBytes (freshSession sheet (proposalsFor sheet bytes) (getD sheet 5 0))
+  fresh = sessionBytes (freshSession sheet (proposalsFor sheet bytes) (partiesOf sheet))
 
   -- what an answer a leaves
   bytesAt : Answer → List ℕ
@@ -63,7 +64,7 @@ module _ (sheet bytes session : List ℕ) (count : ℕ) (fits : (m : ℕ) → 1 
 
     -- what is written for a fresh session
     module _ (numbers : List ℕ) (parties : List Party) (numbers-are : numbers ≡ filled 16 xs)
-        (parties-are : parties ≡ map freshParty (from 1 (min (getD sheet 5 0) 16)) ++ replicate (16 - getD sheet 5 0) noParty) where
+        (parties-are : parties ≡ map freshParty (from 1 (min (partiesOf sheet) 16)) ++ replicate (16 - partiesOf sheet) noParty) where
       abbrev written : Session
       written = ofParts (filled 1898 sheet) numbers (replicate 1024 0) (replicate 256 0) parties
 
@@ -75,7 +76,7 @@ module _ (sheet bytes session : List ℕ) (count : ℕ) (fits : (m : ℕ) → 1 
           let few = rules .before .before .before .header .partiesMost in
           let a = answers-at done (opens .2 _ ∙ rw (eq-eqb (length session) 3418 l)) in
           let both : (eqb (length session) 3418 && leb (length sheet) 1898) ≡ true = rw (eq-eqb (length session) 3418 l, le-leb (length sheet) 1898 (sheet-most sheet rules)) in
-          let fresh-is : written ≡ freshSession sheet xs (getD sheet 5 0) =
-          λ i. ofParts (filled 1898 sheet) (numbers-are i) (replicate 1024 0) (replicate 256 0) ((parties-are ∙ fresh-taken (getD sheet 5 0) few) i) in
-          let whole = fresh-is ∙ ap (λ (ys : List ℕ). freshSession sheet ys (getD sheet 5 0)) (opens .1) in
+          let fresh-is : written ≡ freshSession sheet xs (partiesOf sheet) =
+          λ i. ofParts (filled 1898 sheet) (numbers-are i) (replicate 1024 0) (replicate 256 0) ((parties-are ∙ fresh-taken (partiesOf sheet) few) i) in
+          let whole = fresh-is ∙ ap (λ (ys : List ℕ). freshSession sheet ys (partiesOf sheet)) (opens .1) in
           (a .0, is ∙ ap (λ (b : Bool). cond b (sessionBytes written) session) both ∙ ap sessionBytes whole ∙ a .1)

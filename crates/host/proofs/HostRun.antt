@@ -6,7 +6,8 @@ use mathlib.Core.List.{List}
 use mathlib.Core.Bool.{Bool, true, false, cond}
 use borrow.Author.Tests.{ne-eqb}
 use lib.Dec.{eqb}
-use lib.ListN.{length, getD}
+use lib.ListN.{length}
+use Rattle.sheet.specs.Rows.{partiesOf}
 use Rattle.sheet.specs.Lists.{firstBad}
 use Rattle.answers.specs.Answers.{Answer}
 use Rattle.state.specs.Opening.{openAnswer}
@@ -68,9 +69,9 @@ module _ (sheet bytes : List ℕ) (count : ℕ) (fits : (m : ℕ) → 1 ≤ m �
 
     -- ---- a schedule with a bad byte: the room for a record is not asked for, and nothing is written
 
-    module _ (bad : firstBad (byteOk (getD sheet 5 0)) 1 schedule ≢ 0) where
-      some : eqb (firstBad (byteOk (getD sheet 5 0)) 1 schedule) 0 ≡ false
-      some = ne-eqb (firstBad (byteOk (getD sheet 5 0)) 1 schedule) 0 bad
+    module _ (bad : firstBad (byteOk (partiesOf sheet)) 1 schedule ≢ 0) where
+      some : eqb (firstBad (byteOk (partiesOf sheet)) 1 schedule) 0 ≡ false
+      some = ne-eqb (firstBad (byteOk (partiesOf sheet)) 1 schedule) 0 bad
 
       pub bad-any : (len : ℕ) → runAnswer sheet xs schedule len ≡ host (length out)
       bad-any len = same ∙ run-is (length out)

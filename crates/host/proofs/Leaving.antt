@@ -6,11 +6,11 @@ use mathlib.Core.Bool.{Bool, true, false, not, cond}
 use native.Mathlib.Omega.{arith}
 use borrow.Author.Tests.{ltb-false, eqb-true, eqb-false, ne-eqb}
 use lib.Dec.{T, ltb, eqb}
-use lib.ListN.{length, getD, drop, length-append, length-drop}
+use lib.ListN.{length, drop, length-append, length-drop}
 use lib.Seq.{drop-at}
 use Rattle.sheet.specs.Bytes.{num}
 use Rattle.sheet.specs.Lists.{firstBad}
-use Rattle.sheet.specs.Rows.{sheetLength}
+use Rattle.sheet.specs.Rows.{sheetLength, partiesOf}
 use Rattle.answers.specs.Answers.{Answer, answer, done}
 use Rattle.sheet.specs.Check.{numbersOk, checkAnswer}
 use Rattle.builder.specs.Build.{given, builtSheet, buildAnswer, outAfter}
@@ -114,7 +114,7 @@ ran-when false b c opening k e z = absurd (eqb-false (opening .number) 0 e z)
 
 module _ (sheet proposals : List ℕ) where
   abbrev n : ℕ
-  n = getD sheet 5 0
+  n = partiesOf sheet
 
   abbrev ok : Bool
   ok = eqb (checkAnswer sheet .number) 0

@@ -9,7 +9,7 @@ use native.Mathlib.Omega.{arith}
 use borrow.Author.Tests.{eq-eqb, ne-eqb}
 use lib.Dec.{ltb, eqb}
 use lib.ListN.{length, getD}
-use Rattle.sheet.specs.Rows.{layoutOf}
+use Rattle.sheet.specs.Rows.{layoutOf, partiesOf}
 use Rattle.sheet.specs.Bytes.{num}
 use Rattle.answers.specs.Answers.{Answer, done}
 use Rattle.sheet.specs.Check.{headerOk, lengthOk, checkAnswer}
@@ -31,7 +31,7 @@ module _ (sheet : List ℕ) where
   ok = eqb (checkAnswer sheet .number) 0
 
   abbrev n : ℕ
-  n = getD sheet 5 0
+  n = partiesOf sheet
 
   abbrev Most : ℕ → Answer → Type 0
   Most k a = a .number ≤ k

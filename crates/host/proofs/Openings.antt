@@ -10,7 +10,7 @@ use lib.Dec.{eqb}
 use lib.ListN.{length, getD, List·getD-eq-default}
 use Rattle.sheet.specs.Lists.{flat}
 use Rattle.sheet.specs.Bytes.{num, bytesOf}
-use Rattle.sheet.specs.Rows.{slot, slots, sheetLength}
+use Rattle.sheet.specs.Rows.{slot, slots, sheetLength, partiesOf}
 use Rattle.answers.specs.Answers.{Answer, answer, done}
 use Rattle.sheet.specs.Check.{checkAnswer}
 use Rattle.sheet.specs.declared.rows.Row.{Row}
@@ -36,25 +36,25 @@ use Rattle.host.proofs.Leaving.{fits-when}
 
 record Passed (sheet proposals : List ℕ) (len : ℕ) : Type 0 where
   accepted : checkAnswer sheet ≡ done
-  count : length proposals ≡ 4 * getD sheet 5 0
+  count : length proposals ≡ 4 * partiesOf sheet
   size : len ≡ 3418
 
 passed : (sheet proposals : List ℕ) (len : ℕ) → hostOpen sheet proposals len ≡ done → Passed sheet proposals len
 passed sheet proposals len e =
     let rest = cond (eqb len 3418) done (answer 11 0) in
     let (t, counted, z) =
-    opens-when (eqb (checkAnswer sheet .number) 0) (eqb (length proposals) (4 * getD sheet 5 0)) (checkAnswer sheet) rest refl
+    opens-when (eqb (checkAnswer sheet .number) 0) (eqb (length proposals) (4 * partiesOf sheet)) (checkAnswer sheet) rest refl
     (ap (λ (x : Answer). x .number) e) in
     record {
       accepted = past-6 sheet (accepted-says sheet .0 t);
-      count = eqb-true (length proposals) (4 * getD sheet 5 0) counted;
+      count = eqb-true (length proposals) (4 * partiesOf sheet) counted;
       size = eqb-true len 3418 (fits-when (eqb len 3418) z);
     }
 
 passes : (sheet proposals : List ℕ) (len : ℕ) → Passed sheet proposals len → hostOpen sheet proposals len ≡ done
 passes sheet proposals len p =
     let a = ap (λ (x : Answer). eqb (x .number) 0) (p .accepted) in
-    let b = eq-eqb (length proposals) (4 * getD sheet 5 0) (p .count) in
+    let b = eq-eqb (length proposals) (4 * partiesOf sheet) (p .count) in
     let c = eq-eqb len 3418 (p .size) in
     λ i. cond (a i) (cond (b i) (cond (c i) done (answer 11 0)) (answer 7 0)) (checkAnswer sheet)
 
@@ -62,7 +62,7 @@ passes sheet proposals len p =
 
 module _ (sheet proposals session : List ℕ) (low : Below 256 proposals) (e : hostOpen sheet proposals (length session) ≡ done) where
   abbrev n : ℕ
-  n = getD sheet 5 0
+  n = partiesOf sheet
 
   abbrev numbers : List ℕ
   numbers = proposalsFor sheet proposals

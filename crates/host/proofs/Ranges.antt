@@ -11,7 +11,7 @@ use lib.Dec.{ltb, eqb, T}
 use lib.ListN.{length, getD, take, set}
 use lib.Seq.{length-take-le}
 use Rattle.sheet.specs.Lists.{from, firstBad}
-use Rattle.sheet.specs.Rows.{layoutOf, slot, slots, sheetLength}
+use Rattle.sheet.specs.Rows.{layoutOf, slot, slots, sheetLength, partiesOf}
 use Rattle.answers.specs.Answers.{Answer, answer, done}
 use Rattle.sheet.specs.Check.{within, numbersOk, headerOk, lengthOk, checkAnswer}
 use Rattle.sheet.specs.declared.rows.Slot.{Slot}
@@ -127,7 +127,7 @@ module _ (sheet proposals : List ℕ) where
   past-check counted rest f = chosen AnswerFits ok (λ _. chosen AnswerFits counted (λ _. f) (λ _. plain 7 (omega arith))) (λ _. check-fits sheet)
 
   abbrev slice : Bool
-  slice = eqb (length proposals) (4 * getD sheet 5 0)
+  slice = eqb (length proposals) (4 * partiesOf sheet)
 
   pub open-fits : (len : ℕ) → AnswerFits (hostOpen sheet proposals len)
   open-fits len = past-check slice _ (chosen AnswerFits (eqb len 3418) (λ _. plain 0 (omega arith)) (λ _. plain 11 (omega arith)))
@@ -136,28 +136,28 @@ module _ (sheet proposals : List ℕ) where
   numbers = proposalsFor sheet proposals
 
   -- a run of a schedule whose first bad byte has an index that fits
-  pub run-fits : (schedule : List ℕ) (len : ℕ) → firstBad (byteOk (getD sheet 5 0)) 1 schedule ≤ 2 ^ 32
+  pub run-fits : (schedule : List ℕ) (len : ℕ) → firstBad (byteOk (partiesOf sheet)) 1 schedule ≤ 2 ^ 32
       → AnswerFits (unlessUnopened sheet proposals (runAnswer sheet numbers schedule len))
   run-fits schedule len most = past-check slice _ run
     where
       bad : ℕ
-      bad = firstBad (byteOk (getD sheet 5 0)) 1 schedule
+      bad = firstBad (byteOk (partiesOf sheet)) 1 schedule
 
       run : AnswerFits (runAnswer sheet numbers schedule len)
       run =
           chosen AnswerFits (eqb (openAnswer sheet numbers .number) 0) (λ _.
           chosen AnswerFits (eqb bad 0) (λ _.
-          chosen AnswerFits (ltb len (recordLength (getD sheet 5 0))) (λ _. plain 11 (omega arith)) (λ _. plain 0 (omega arith)))
+          chosen AnswerFits (ltb len (recordLength (partiesOf sheet))) (λ _. plain 11 (omega arith)) (λ _. plain 0 (omega arith)))
           (λ _. refuses 8 (bad - 1) (omega arith) (omega arith) (λ a b c. absurd (c refl))))
-          (λ _. past-check (eqb (length numbers) (getD sheet 5 0)) done (plain 0 (omega arith)))
+          (λ _. past-check (eqb (length numbers) (partiesOf sheet)) done (plain 0 (omega arith)))
 
 -- the first bad byte of a schedule whose byte at an index counts as bad has at most that index
 pub heard-most : (last limit : ℕ) (sheet schedule : List ℕ) → suc last ≤ limit
-    → firstBad (byteOk (getD sheet 5 0)) 1 (badAt last schedule) ≤ limit
+    → firstBad (byteOk (partiesOf sheet)) 1 (badAt last schedule) ≤ limit
 heard-most last limit sheet schedule h = ⊎-elim long short (lt-or-le last (length schedule))
   where
     good : ℕ → Bool
-    good = byteOk (getD sheet 5 0)
+    good = byteOk (partiesOf sheet)
 
     within-front : last < length schedule → firstBad good 1 (take last schedule) ≤ last
     within-front l = let size = length-take-le last schedule (omega arith) in omega (arith, first-most good 0 (take last schedule))

@@ -6,7 +6,7 @@ use mathlib.Core.Bool.{Bool, true, false, cond}
 use native.Mathlib.Omega.{arith}
 use borrow.Author.Tests.{lt-ltb, le-ltb, ne-eqb}
 use lib.Dec.{T, eqb}
-use lib.ListN.{getD}
+use Rattle.sheet.specs.Rows.{partiesOf}
 use Rattle.sheet.specs.Lists.{all}
 use Rattle.sheet.specs.Check.{within}
 use Rattle.sheet.proofs.Folds.{or-left, or-right, and-both, held, failed, same-test}
@@ -44,15 +44,15 @@ abbrev pub next : ℕ → Session → Call → Session
 next n s c = cond (isOfParty n c) (obey s c) s
 
 pub next-reached : (sheet proposals : List ℕ) {s : Session} → Reached sheet proposals s → (c : Call)
-    → Reached sheet proposals (next (getD sheet 5 0) s c)
-next-reached sheet proposals {s} R c = by (isOfParty (getD sheet 5 0) c) refl
+    → Reached sheet proposals (next (partiesOf sheet) s c)
+next-reached sheet proposals {s} R c = by (isOfParty (partiesOf sheet) c) refl
   where
-    on : (c : Call) → T (isOfParty (getD sheet 5 0) c) → Reached sheet proposals (obey s c)
-    on (step i) t = let (least, most) = within-words 1 (getD sheet 5 0) i .says .0 t in by-step i least most R
-    on (stop i) t = let (least, most) = within-words 1 (getD sheet 5 0) i .says .0 t in by-stop i least most R
+    on : (c : Call) → T (isOfParty (partiesOf sheet) c) → Reached sheet proposals (obey s c)
+    on (step i) t = let (least, most) = within-words 1 (partiesOf sheet) i .says .0 t in by-step i least most R
+    on (stop i) t = let (least, most) = within-words 1 (partiesOf sheet) i .says .0 t in by-stop i least most R
 
-    by : (w : Bool) → isOfParty (getD sheet 5 0) c ≡ w → Reached sheet proposals (cond w (obey s c) s)
-    by true e = on c (held (isOfParty (getD sheet 5 0) c) e)
+    by : (w : Bool) → isOfParty (partiesOf sheet) c ≡ w → Reached sheet proposals (cond w (obey s c) s)
+    by true e = on c (held (isOfParty (partiesOf sheet) c) e)
     by false e = R
 
 module _ (n : ℕ) (few : n ≤ 16) where

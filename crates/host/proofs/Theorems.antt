@@ -5,6 +5,7 @@ use mathlib.Core.List.{List, [], map}
 use native.Mathlib.Omega.{arith}
 use lib.Dec.{T}
 use lib.ListN.{length, getD}
+use Rattle.sheet.specs.Rows.{partiesOf}
 use Rattle.sheet.specs.Lists.{all}
 use Rattle.answers.specs.Answers.{done}
 use Rattle.builder.specs.Build.{builtSheet}
@@ -28,7 +29,7 @@ use Rattle.host.proofs.Openings.{open-bytes, opens, proposal-at, words,
 module _ (sheet proposals session : List ℕ) (sheetLow : Below 256 sheet) (proposalsLow : Below 256 proposals)
     (opened : hostOpen sheet proposals (length session) ≡ done) (calls : List Call) where
   abbrev n : ℕ
-  n = getD sheet 5 0
+  n = partiesOf sheet
 
   abbrev numbers : List ℕ
   numbers = proposalsFor sheet proposals

@@ -2,8 +2,9 @@
 use Prim.Native.Nat.{ℕ, suc, _*_}
 use mathlib.Core.List.{List, _∷_, _++_}
 use mathlib.Core.Bool.{cond}
-use lib.ListN.{length, getD, take, drop}
+use lib.ListN.{length, take, drop}
 use lib.Dec.{ltb, eqb}
+use Rattle.sheet.specs.Rows.{partiesOf}
 use Rattle.answers.specs.Answers.{Answer, answer, done}
 use Rattle.sheet.specs.Check.{checkAnswer}
 use Rattle.state.specs.Session.{freshSession}
@@ -17,11 +18,11 @@ use Rattle.image.specs.Image.{proposalsOf, sessionBytes, sessionOf}
 -- the sheet's refusal, then 7 for a proposal slice not of 4 × N bytes, then the rest
 abbrev pub unlessUnopened : List ℕ → List ℕ → Answer → Answer
 unlessUnopened sheet proposals rest =
-    cond (eqb (checkAnswer sheet .number) 0) (cond (eqb (length proposals) (4 * getD sheet 5 0)) rest (answer 7 0)) (checkAnswer sheet)
+    cond (eqb (checkAnswer sheet .number) 0) (cond (eqb (length proposals) (4 * partiesOf sheet)) rest (answer 7 0)) (checkAnswer sheet)
 
 -- the proposals that a slice says, where it is of 4 × N bytes
 abbrev pub proposalsFor : List ℕ → List ℕ → List ℕ
-proposalsFor sheet proposals = proposalsOf (getD sheet 5 0) proposals
+proposalsFor sheet proposals = proposalsOf (partiesOf sheet) proposals
 
 -- ---- open: then 11, for a session slice of another length
 
@@ -31,7 +32,7 @@ hostOpen sheet proposals len = unlessUnopened sheet proposals (cond (eqb len 341
 abbrev pub openBytes : List ℕ → List ℕ → List ℕ → List ℕ
 openBytes sheet proposals session =
     cond (eqb (hostOpen sheet proposals (length session) .number) 0)
-    (sessionBytes (freshSession sheet (proposalsFor sheet proposals) (getD sheet 5 0))) session
+    (sessionBytes (freshSession sheet (proposalsFor sheet proposals) (partiesOf sheet))) session
 
 -- ---- step, stop and live: 9 for a session slice of another length, then as on the session that the bytes say
 

@@ -5,6 +5,7 @@ use mathlib.Core.List.{List, [], _∷_, map}
 use mathlib.Core.Bool.{cond}
 use lib.ListN.{length, getD}
 use lib.Dec.{eqb}
+use Rattle.sheet.specs.Rows.{partiesOf}
 use Rattle.sheet.specs.Bytes.{num}
 use Rattle.answers.specs.Answers.{done}
 use Rattle.sheet.specs.Check.{within}
@@ -85,26 +86,26 @@ pub record OfHost (sheet proposals session : List ℕ) (calls : List Call) : Typ
   pub length : length (leftBy sheet proposals session calls) ≡ 3418
   -- of each call the refusal number is 0 where it is of a party 1 to N, and 10 otherwise, so never 9
   pub numbers :
-      map (λ w. w % 256) (wordsOf (openBytes sheet proposals session) calls) ≡ map (refusalOf (getD sheet 5 0)) calls
+      map (λ w. w % 256) (wordsOf (openBytes sheet proposals session) calls) ≡ map (refusalOf (partiesOf sheet)) calls
   -- 1. every party that has decided has decided the proposal of one same party, which has taken an own step
   pub holder : ℕ
   pub holderLeast : 1 ≤ holder
-  pub holderMost : holder ≤ getD sheet 5 0
+  pub holderMost : holder ≤ partiesOf sheet
   pub agreed :
-      (i : ℕ) → 1 ≤ i → i ≤ getD sheet 5 0 → statusIn (leftBy sheet proposals session calls) i ≡ 2
+      (i : ℕ) → 1 ≤ i → i ≤ partiesOf sheet → statusIn (leftBy sheet proposals session calls) i ≡ 2
       → decisionIn (leftBy sheet proposals session calls) i ≡ num proposals (4 * (holder - 1)) 4
   pub announced :
-      (i : ℕ) → 1 ≤ i → i ≤ getD sheet 5 0 → statusIn (leftBy sheet proposals session calls) i ≡ 2
+      (i : ℕ) → 1 ≤ i → i ≤ partiesOf sheet → statusIn (leftBy sheet proposals session calls) i ≡ 2
       → 1 ≤ stepsIn (leftBy sheet proposals session calls) holder
   -- 2. no party has more own steps than its limit, and one that has them has decided
   pub most :
-      (i : ℕ) → 1 ≤ i → i ≤ getD sheet 5 0 → stepsIn (leftBy sheet proposals session calls) i ≤ stepLimit (getD sheet 5 0) i
+      (i : ℕ) → 1 ≤ i → i ≤ partiesOf sheet → stepsIn (leftBy sheet proposals session calls) i ≤ stepLimit (partiesOf sheet) i
   pub decides :
-      (i : ℕ) → 1 ≤ i → i ≤ getD sheet 5 0 → stepLimit (getD sheet 5 0) i ≤ stepsIn (leftBy sheet proposals session calls) i
+      (i : ℕ) → 1 ≤ i → i ≤ partiesOf sheet → stepLimit (partiesOf sheet) i ≤ stepsIn (leftBy sheet proposals session calls) i
       → statusIn (leftBy sheet proposals session calls) i ≡ 2
   -- 3. and one that has as many step calls as its limit before any stop call of its own has decided
   pub enough :
-      (i : ℕ) → 1 ≤ i → i ≤ getD sheet 5 0 → stepLimit (getD sheet 5 0) i ≤ stepsBefore i calls
+      (i : ℕ) → 1 ≤ i → i ≤ partiesOf sheet → stepLimit (partiesOf sheet) i ≤ stepsBefore i calls
       → statusIn (leftBy sheet proposals session calls) i ≡ 2
 
 -- every opening that is done, with sheet and proposals of bytes, and every list of calls

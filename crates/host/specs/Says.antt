@@ -3,8 +3,8 @@ use Prim.Native.Nat.{ℕ, _/_, _%_, _^_}
 use mathlib.Core.Path.{_≡_}
 use mathlib.Core.Logic.{_≢_}
 use mathlib.Core.List.{List}
-use lib.ListN.{length, getD, drop}
-use Rattle.sheet.specs.Rows.{sheetLength}
+use lib.ListN.{length, drop}
+use Rattle.sheet.specs.Rows.{sheetLength, partiesOf}
 use Rattle.answers.specs.Answers.{Answer}
 use Rattle.sheet.specs.Check.{checkAnswer}
 use Rattle.builder.specs.Build.{buildAnswer, outAfter}
@@ -37,7 +37,7 @@ pub record RefusalsKeep : Type 0 where
       (sheet proposals schedule out : List ℕ)
       → Leaves (hostRun sheet proposals schedule (length out) .number) out (runBytes sheet proposals schedule out)
   pub runPast :
-      (sheet proposals schedule out : List ℕ) → SamePast (recordLength (getD sheet 5 0)) out (runBytes sheet proposals schedule out)
+      (sheet proposals schedule out : List ℕ) → SamePast (recordLength (partiesOf sheet)) out (runBytes sheet proposals schedule out)
 
 -- ---- the value is 0 in a refused answer, and the position except for 5, 6 and 8
 

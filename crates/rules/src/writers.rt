@@ -2,11 +2,11 @@
 ghost use mathlib.Core.Path.{_≡_};
 ghost use mathlib.Core.Bool.{_&&_, _||_, cond};
 ghost use Prim.Native.Nat.{_+_, _-_, _*_, _≤_, max};
-ghost use lib.ListN.{length, getD};
+ghost use lib.ListN.{length};
 ghost use lib.Dec.{eqb};
 ghost use Rattle.sheet.specs.Lists.{from, all, firstBad};
 ghost use Rattle.sheet.specs.Sets.{apart};
-ghost use Rattle.sheet.specs.Rows.{layoutOf, slots, rowAt, rowNumber};
+ghost use Rattle.sheet.specs.Rows.{layoutOf, slots, rowAt, rowNumber, partiesOf};
 ghost use Rattle.sheet.specs.Rules.{writerRule};
 ghost use Rattle.sheet.specs.Words.{IsSlot, Rules4, Rules5};
 ghost use Rattle.rules.specs.Quick.{beside, clearOfRounds, quickRule, edgeAfter, ascending};
@@ -151,7 +151,7 @@ fn clear_of_rounds(s: &[u8], round: usize, w: Row) -> bool
 // Whether row k, which is p's, keeps the writer rule. The other rounds are looked at only where rounds do not ascend.
 fn writer_fits(s: &[u8], ascending: bool, p: Slot, k: usize) -> bool
     requires { ⌜ Rules4 (now s) ⌝ }
-    requires { ⌜ IsSlot (getD (now s) 5 0) p ⌝ }
+    requires { ⌜ IsSlot (partiesOf (now s)) p ⌝ }
     requires { ⌜ k + 1 ≡ rowNumber p ⌝ }
     ensures { λ r. ⌜ r ≡ quickRule (layoutOf (now (s .entry))) ascending p ⌝ }
 {
@@ -170,7 +170,7 @@ fn writer_fits(s: &[u8], ascending: bool, p: Slot, k: usize) -> bool
 
 fn first_clash(s: &[u8], ascending: bool) -> usize
     requires { ⌜ Rules4 (now s) ⌝ }
-    ensures { λ r. ⌜ r ≡ firstBad (quickRule (layoutOf (now (s .entry))) ascending) 1 (slots (getD (now (s .entry)) 5 0)) ⌝ }
+    ensures { λ r. ⌜ r ≡ firstBad (quickRule (layoutOf (now (s .entry))) ascending) 1 (slots (partiesOf (now (s .entry)))) ⌝ }
 {
     let count = rows::row_count(s[5]);
     let mut p = Slot::first();
@@ -188,7 +188,7 @@ fn first_clash(s: &[u8], ascending: bool) -> usize
 // The first row, counted from 1, that breaks the writer rule, or 0, where all rows keep the row rule.
 pub(crate) fn first_bad_writer(s: &[u8]) -> usize
     requires { ⌜ Rules5 (now s) ⌝ }
-    ensures { λ r. ⌜ r ≡ firstBad (writerRule (layoutOf (now (s .entry)))) 1 (slots (getD (now (s .entry)) 5 0)) ⌝ }
+    ensures { λ r. ⌜ r ≡ firstBad (writerRule (layoutOf (now (s .entry)))) 1 (slots (partiesOf (now (s .entry)))) ⌝ }
 {
     first_clash(s, ascends(s))
 }

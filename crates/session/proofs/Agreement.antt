@@ -6,6 +6,7 @@ use mathlib.Core.Logic.{_≢_, _⊎_, inl, inr}
 use native.Mathlib.Omega.{arith}
 use native.Mathlib.Decide.{ℕ-discrete}
 use lib.ListN.{length, getD}
+use Rattle.sheet.specs.Rows.{partiesOf}
 use Rattle.sheet.specs.Words.{Rules6}
 use Rattle.state.specs.Session.{filled, layout, partyOf}
 use Rattle.state.specs.declared.kept.Party.{Party}
@@ -108,9 +109,9 @@ decided-stays (by-stop {t} j a b R) i l e =
 
 -- ---- of every session that is reached
 
-module _ (sheet proposals : List ℕ) (rules : Rules6 sheet) (count : length proposals ≡ getD sheet 5 0) where
+module _ (sheet proposals : List ℕ) (rules : Rules6 sheet) (count : length proposals ≡ partiesOf sheet) where
   abbrev parties : ℕ
-  parties = getD sheet 5 0
+  parties = partiesOf sheet
 
   pub agreement : {s : Session} → Reached sheet proposals s → (h : ℕ) × Agreed parties proposals s h
   agreement {s} R =

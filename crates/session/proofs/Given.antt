@@ -8,7 +8,7 @@ use native.Mathlib.Omega.{arith}
 use native.Mathlib.Decide.{ℕ-discrete, decLt}
 use borrow.Author.Tests.{eq-eqb, ne-eqb, lt-ltb}
 use lib.Dec.{eqb}
-use lib.ListN.{getD}
+use Rattle.sheet.specs.Rows.{partiesOf}
 use Rattle.sheet.specs.Words.{Rules6}
 use Rattle.state.specs.Session.{layout, partyOf}
 use Rattle.state.specs.declared.kept.Party.{Party}
@@ -23,7 +23,7 @@ use Rattle.session.proofs.StepLimits.{reached-decides}
 
 module _ (sheet proposals : List ℕ) (rules : Rules6 sheet) where
   abbrev n : ℕ
-  n = getD sheet 5 0
+  n = partiesOf sheet
 
   live-step : {s : Session} (K : Kept sheet proposals s) (i : ℕ) → 1 ≤ i → i ≤ layout s .parties → partyOf (s .parties) i .status < 2
       → partyOf (step s i .parties) i .steps ≡ partyOf (s .parties) i .steps + 1

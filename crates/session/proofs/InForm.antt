@@ -6,6 +6,7 @@ use mathlib.Core.Logic.{_⊎_, inl, inr}
 use native.Mathlib.Omega.{arith}
 use native.Mathlib.Nat.{mul-le-mul}
 use lib.ListN.{length, getD}
+use Rattle.sheet.specs.Rows.{partiesOf}
 use Rattle.sheet.specs.Words.{Rules6}
 use Rattle.state.specs.Session.{carried, layout, partyOf, cell}
 use Rattle.state.specs.Words.{PartyRule, WellFormed}
@@ -128,7 +129,7 @@ module _ {sheet proposals : List ℕ} (rules : Rules6 sheet) (s : Session) (K : 
       let w : LowerRow n r k = (record { first = a; last = b; lowest = c; top = omega arith }, d) in
       omega (arith, published-fits (K .invariant) r k b, where-yes (lower? n r k) (getD (s .published) (cell r k) 0) w)
 
-  pub kept-in-form : length proposals ≡ getD sheet 5 0 → WellFormed s
+  pub kept-in-form : length proposals ≡ partiesOf sheet → WellFormed s
   kept-in-form count =
       record {
         sheet = sound;

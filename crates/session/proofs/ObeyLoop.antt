@@ -8,7 +8,7 @@ use lib.Dec.{T}
 use lib.ListN.{length, getD, take, set, replicate}
 use lib.Seq.{take-all}
 use Rattle.sheet.specs.Lists.{from, all}
-use Rattle.sheet.specs.Rows.{layoutOf}
+use Rattle.sheet.specs.Rows.{layoutOf, partiesOf}
 use Rattle.sheet.specs.Words.{Rules6}
 use Rattle.sheet.proofs.Folds.{lt-or-le}
 use Rattle.state.specs.Session.{freshParty, noParty, filled, freshSession, partyOf}
@@ -25,7 +25,7 @@ use Rattle.session.proofs.Obeying.{Good, good, obeyed-reached, step-liv
 
 pub record Going (sheet proposals schedule : List ℕ) (n : ℕ) (kept : List ℕ) (j : ℕ) (parties : List Party) (marks published : List ℕ) : Type 0 where
   pub rules : Rules6 sheet
-  pub size : n ≡ getD sheet 5 0
+  pub size : n ≡ partiesOf sheet
   pub count : length proposals ≡ n
   pub good : T (all (byteOk n) schedule)
   pub copy : kept ≡ filled 16 proposals
@@ -33,7 +33,7 @@ pub record Going (sheet proposals schedule : List ℕ) (n : ℕ) (kept : List �
   pub shows : Shows (ran sheet proposals (take j schedule)) parties marks published
 
 pub going-first : {sheet proposals schedule : List ℕ} {n : ℕ} (kept : List ℕ) (parties : List Party) → Rules6 sheet
-    → n ≡ getD sheet 5 0 → length proposals ≡ n → T (all (byteOk n) schedule) → kept ≡ filled 16 proposals
+    → n ≡ partiesOf sheet → length proposals ≡ n → T (all (byteOk n) schedule) → kept ≡ filled 16 proposals
     → parties ≡ map freshParty (from 1 n) ++ replicate (16 - n) noParty
     → Going sheet proposals schedule n kept 0 parties (replicate 1024 0) (replicate 256 0)
 going-first kept parties rules size count good copy e =
@@ -110,7 +110,7 @@ module _ {sheet proposals schedule : List ℕ} {n : ℕ} {kept : List ℕ} {j : 
             copy = g .copy;
             inside = omega arith;
             shows =
-                subst (λ (t : Session). Shows t after ms us) (sym (obeyed-more (freshSession sheet proposals (getD sheet 5 0)) schedule j more)) S;
+                subst (λ (t : Session). Shows t after ms us) (sym (obeyed-more (freshSession sheet proposals (partiesOf sheet)) schedule j more)) S;
           }
 
       pub going-act : p .status < 2 → b < 128 → (q : Party) → after ≡ set parties (b % 128 - 1) q

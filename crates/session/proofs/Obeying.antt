@@ -8,11 +8,11 @@ use native.Mathlib.Decide.{ℕ-discrete}
 use native.Mathlib.Omega.{arith}
 use borrow.Author.Tests.{lt-ltb, le-ltb, eq-eqb, ne-eqb}
 use lib.Dec.{T, leb, eqb, leb→le}
-use lib.ListN.{getD, set}
+use lib.ListN.{set}
 use lib.Seq.{set-getD}
 use Rattle.sheet.specs.Check.{within}
 use Rattle.sheet.specs.Lists.{all}
-use Rattle.sheet.specs.Rows.{Layout}
+use Rattle.sheet.specs.Rows.{Layout, partiesOf}
 use Rattle.sheet.specs.Words.{Rules6}
 use Rattle.sheet.proofs.Folds.{and-left, and-right, or-cases, lt-or-le}
 use Rattle.state.specs.Session.{noParty, layout, partyOf}
@@ -56,13 +56,13 @@ good n b few t = ⊎-elim low high (or-cases (within 1 n b) (within 129 (128 + n
 -- ---- where a byte leads
 
 module _ (sheet proposals : List ℕ) (rules : Rules6 sheet) where
-  few : getD sheet 5 0 ≤ 16
+  few : partiesOf sheet ≤ 16
   few = rules .before .before .before .header .partiesMost
 
-  pub byte-good : (b : ℕ) → T (byteOk (getD sheet 5 0) b) → Good (getD sheet 5 0) b
-  byte-good b t = good (getD sheet 5 0) b few t
+  pub byte-good : (b : ℕ) → T (byteOk (partiesOf sheet) b) → Good (partiesOf sheet) b
+  byte-good b t = good (partiesOf sheet) b few t
 
-  pub entry-reached : {s : Session} → Reached sheet proposals s → (b : ℕ) → T (byteOk (getD sheet 5 0) b) → Reached sheet proposals (entry s b)
+  pub entry-reached : {s : Session} → Reached sheet proposals s → (b : ℕ) → T (byteOk (partiesOf sheet) b) → Reached sheet proposals (entry s b)
   entry-reached {s} R b t =
       let g = byte-good b t in
       ⊎-elim
@@ -70,12 +70,12 @@ module _ (sheet proposals : List ℕ) (rules : Rules6 sheet) where
       (λ l. subst (Reached sheet proposals) (sym (g .stops l s)) (by-stop (b % 128) (g .least) (g .most) R))
       (lt-or-le b 128)
 
-  pub obeyed-reached : {s : Session} → Reached sheet proposals s → (bs : List ℕ) → T (all (byteOk (getD sheet 5 0)) bs)
+  pub obeyed-reached : {s : Session} → Reached sheet proposals s → (bs : List ℕ) → T (all (byteOk (partiesOf sheet)) bs)
       → Reached sheet proposals (obeyed s bs)
   obeyed-reached R [] t = R
   obeyed-reached R (b ∷ bs) t =
-      let here = byteOk (getD sheet 5 0) b in
-      let later = all (byteOk (getD sheet 5 0)) bs in
+      let here = byteOk (partiesOf sheet) b in
+      let later = all (byteOk (partiesOf sheet)) bs in
       obeyed-reached (entry-reached R b (and-left here later t)) bs (and-right here later t)
 
 -- ---- steps and stops by status

@@ -4,7 +4,7 @@ use mathlib.Core.Path.{_≡_, refl, _∙_, ap}
 use mathlib.Core.List.{List}
 use native.Mathlib.Omega.{arith}
 use lib.ListN.{length, getD, length-replicate}
-use Rattle.sheet.specs.Rows.{layoutOf, slot}
+use Rattle.sheet.specs.Rows.{layoutOf, slot, partiesOf}
 use Rattle.sheet.specs.Words.{Rules6}
 use Rattle.state.specs.Session.{freshParty, filled, freshSession, carried, layout, partyOf, cell}
 use Rattle.state.specs.Words.{WellFormed}
@@ -33,13 +33,13 @@ pub record Lengths (s : Session) : Type 0 where
 
 module _ (sheet proposals : List ℕ) (rules : Rules6 sheet) where
   module _ (s : Session) (copy : s .sheet ≡ filled 1898 sheet) (given : s .proposals ≡ filled 16 proposals)
-      (parties : s .parties ≡ freshParties (getD sheet 5 0))
+      (parties : s .parties ≡ freshParties (partiesOf sheet))
       (marks : length (s .marks) ≡ 1024) (cells : length (s .published) ≡ 256)
       (unmarked : (u : ℕ) → getD (s .marks) u 0 ≡ 0) (unpublished : (j : ℕ) → getD (s .published) j 0 ≡ 0) where
     party-fresh : (i : ℕ) → 1 ≤ i → i ≤ layout s .parties → partyOf (s .parties) i ≡ freshParty i
     party-fresh i l h =
         ap (λ (x : List Party). partyOf x i) parties
-        ∙ fresh-party (getD sheet 5 0) i l (omega (arith, carried-parties sheet rules s copy))
+        ∙ fresh-party (partiesOf sheet) i l (omega (arith, carried-parties sheet rules s copy))
 
     opened : Opened (layout s .parties) (view s)
     opened =
@@ -57,19 +57,19 @@ module _ (sheet proposals : List ℕ) (rules : Rules6 sheet) where
           given = given;
           marks = record { size = marks; most = λ u l. omega (arith, unmarked u); past = λ u l h. unmarked u };
           cells = record { size = cells; past = λ j l h. unpublished j };
-          size = ap length parties ∙ fresh-length (getD sheet 5 0) (rules .before .before .before .header .partiesMost);
+          size = ap length parties ∙ fresh-length (partiesOf sheet) (rules .before .before .before .header .partiesMost);
           past = λ i l h.
               ap (λ (x : List Party). partyOf x i) parties
-              ∙ fresh-past (getD sheet 5 0) i (omega (arith, carried-parties sheet rules s copy));
+              ∙ fresh-past (partiesOf sheet) i (omega (arith, carried-parties sheet rules s copy));
           orderly = λ i l h. rw (party-fresh i l h) (fresh-orderly (s .proposals) i);
           invariant = opened-invariant opened;
           limited = opened-limited opened;
         }
 
-  fresh-kept : Kept sheet proposals (freshSession sheet proposals (getD sheet 5 0))
+  fresh-kept : Kept sheet proposals (freshSession sheet proposals (partiesOf sheet))
   fresh-kept =
       opening-kept
-      (freshSession sheet proposals (getD sheet 5 0))
+      (freshSession sheet proposals (partiesOf sheet))
       refl
       refl
       refl
@@ -96,13 +96,13 @@ module _ (sheet proposals : List ℕ) (rules : Rules6 sheet) where
   pub reached-layout : {s : Session} → Reached sheet proposals s → layout s ≡ layoutOf sheet
   reached-layout R = ap layoutOf (reached-carried R)
 
-  pub reached-parties : {s : Session} → Reached sheet proposals s → layout s .parties ≡ getD sheet 5 0
+  pub reached-parties : {s : Session} → Reached sheet proposals s → layout s .parties ≡ partiesOf sheet
   reached-parties {s} R = carried-parties sheet rules s (reached-kept R .copy)
 
   pub reached-proposals : {s : Session} → Reached sheet proposals s → s .proposals ≡ filled 16 proposals
   reached-proposals R = reached-kept R .given
 
-  module _ (count : length proposals ≡ getD sheet 5 0) where
+  module _ (count : length proposals ≡ partiesOf sheet) where
     pub reached-well-formed : {s : Session} → Reached sheet proposals s → WellFormed s
     reached-well-formed {s} R = kept-in-form rules s (reached-kept R) count
 

@@ -5,7 +5,7 @@ use mathlib.Core.Bool.{Bool, true, false, not, _&&_, cond}
 use native.Mathlib.Nat.{le-trans}
 use native.Mathlib.Omega.{arith}
 use lib.Dec.{T}
-use lib.ListN.{getD}
+use Rattle.sheet.specs.Rows.{partiesOf}
 use Rattle.sheet.specs.Check.{within}
 use Rattle.sheet.specs.Words.{Rules6}
 use Rattle.sheet.proofs.Folds.{holds, held}
@@ -23,7 +23,7 @@ module _ (s : Session) (formed : T (wellFormed s)) where
   accepted = well-formed-says s .0 formed .sheet
 
   -- the copy's byte of the number of parties
-  pub parties-byte : getD (s .sheet) 5 0 ≡ layout s .parties
+  pub parties-byte : partiesOf (s .sheet) ≡ layout s .parties
   parties-byte = sym (carried-parties (s .sheet) accepted)
 
   pub parties-few : layout s .parties ≤ 16
@@ -34,7 +34,7 @@ module _ (s : Session) (i : ℕ) {w : Bool} (formed : w ≡ wellFormed s) (n : n
   pub is-formed : wellFormed s ≡ true
   is-formed = passed formed n
 
-  pub byte-party : {b : Bool} → b ≡ within 1 (getD (s .sheet) 5 0) i → b ≡ within 1 (layout s .parties) i
+  pub byte-party : {b : Bool} → b ≡ within 1 (partiesOf (s .sheet)) i → b ≡ within 1 (layout s .parties) i
   byte-party e = e ∙ ap (λ (m : ℕ). within 1 m i) (parties-byte s (held (wellFormed s) is-formed))
 
 -- ---- the answer, by the two tests
@@ -55,7 +55,7 @@ module _ (w b : Bool) (value : ℕ) where
 -- past both tests
 pub record Past (s : Session) (i : ℕ) : Type 0 where
   pub formed : T (wellFormed s)
-  pub parties : getD (s .sheet) 5 0 ≡ layout s .parties
+  pub parties : partiesOf (s .sheet) ≡ layout s .parties
   pub least : 1 ≤ i
   pub most : i ≤ layout s .parties
   pub few : i ≤ 16

@@ -6,8 +6,7 @@ use native.Mathlib.Nat.{le-refl}
 use native.Mathlib.Omega.{arith}
 use borrow.Author.Tests.{le-leb}
 use lib.Dec.{T}
-use lib.ListN.{getD}
-use Rattle.sheet.specs.Rows.{layoutOf, slot, rowNumber, rowPlace, rowOf, taken}
+use Rattle.sheet.specs.Rows.{layoutOf, slot, rowNumber, rowPlace, rowOf, taken, partiesOf}
 use Rattle.sheet.specs.Rules.{writes}
 use Rattle.sheet.specs.Words.{In, IsSlot, Lower, Rules5}
 use Rattle.sheet.specs.declared.rows.Slot.{Slot}
@@ -16,7 +15,7 @@ use Rattle.sheet.proofs.Numbers.{taken-row}
 use Rattle.sheet.proofs.Slots.{slot-row, count-most}
 use Rattle.sheet.proofs.WriteSets.{in-set}
 
-module _ (s : List ℕ) (p : Slot) (rules : Rules5 s) (row : IsSlot (getD s 5 0) p) where
+module _ (s : List ℕ) (p : Slot) (rules : Rules5 s) (row : IsSlot (partiesOf s) p) where
   pub row-read : rowOf s (p .round) (p .party) ≡ layoutOf s .row p
   row-read =
       let k = rowNumber p - 1 in
@@ -28,8 +27,8 @@ module _ (s : List ℕ) (p : Slot) (rules : Rules5 s) (row : IsSlot (getD s 5 0)
         le-leb 1 (p .party) (row .lowest),
         le-leb (p .party) (p .round) (row .top),
       ) in
-      let inside = slot-row (getD s 5 0) p row .1 in
-      let few = count-most (getD s 5 0) (header .partiesMost) in
+      let inside = slot-row (partiesOf s) p row .1 in
+      let few = count-most (partiesOf s) (header .partiesMost) in
       let size = rules .before .lengths .lent in
       ap (λ (j : ℕ). taken s j .row) place ∙ ap (λ (t : Taken). t .row) (taken-row s k (omega arith) (omega arith))
 

@@ -6,7 +6,8 @@ use mathlib.Core.Bool.{cond}
 use mathlib.Core.Logic.{_≢_}
 use borrow.Author.Tests.{lt-ltb, le-ltb, eq-eqb, ne-eqb}
 use lib.Dec.{ltb, eqb}
-use lib.ListN.{length, getD, drop}
+use lib.ListN.{length, drop}
+use Rattle.sheet.specs.Rows.{partiesOf}
 use Rattle.sheet.specs.Lists.{firstBad}
 use Rattle.answers.specs.Answers.{Answer, answer, done, answerOf}
 use Rattle.answers.specs.declared.Refusal.{Refusal}
@@ -19,20 +20,20 @@ use Rattle.session.specs.Run.{byteOk, runAnswer, ran, runOut}
 
 module _ (sheet proposals schedule out : List ℕ) where
   abbrev bad : ℕ
-  bad = firstBad (byteOk (getD sheet 5 0)) 1 schedule
+  bad = firstBad (byteOk (partiesOf sheet)) 1 schedule
 
   -- what the schedule and the output decide, where the opening answers o
   runAt : Answer → Answer
   runAt o =
       cond (eqb (o .number) 0)
-      (cond (eqb bad 0) (cond (ltb (length out) (recordLength (getD sheet 5 0))) (answer 11 0) done) (answer 8 (bad - 1)))
+      (cond (eqb bad 0) (cond (ltb (length out) (recordLength (partiesOf sheet))) (answer 11 0) done) (answer 8 (bad - 1)))
       o
 
   -- the output where the run answers a
   outAt : Answer → List ℕ
   outAt a =
       cond (eqb (a .number) 0)
-      (recordBytes (getD sheet 5 0) (ran sheet proposals schedule .parties) ++ drop (recordLength (getD sheet 5 0)) out)
+      (recordBytes (partiesOf sheet) (ran sheet proposals schedule .parties) ++ drop (recordLength (partiesOf sheet)) out)
       out
 
   -- ---- the answer
@@ -47,13 +48,13 @@ module _ (sheet proposals schedule out : List ℕ) where
     unfolding runAt
     run-unscheduled n = sym (ap runAt (sym opened) ∙ rw (ne-eqb bad 0 n))
 
-    pub run-unfit : bad ≡ 0 → length out < recordLength (getD sheet 5 0) → answer 11 0 ≡ runAnswer sheet proposals schedule (length out)
+    pub run-unfit : bad ≡ 0 → length out < recordLength (partiesOf sheet) → answer 11 0 ≡ runAnswer sheet proposals schedule (length out)
     unfolding runAt
-    run-unfit e l = sym (ap runAt (sym opened) ∙ rw (eq-eqb bad 0 e, lt-ltb (length out) (recordLength (getD sheet 5 0)) l))
+    run-unfit e l = sym (ap runAt (sym opened) ∙ rw (eq-eqb bad 0 e, lt-ltb (length out) (recordLength (partiesOf sheet)) l))
 
-    pub run-done : bad ≡ 0 → recordLength (getD sheet 5 0) ≤ length out → done ≡ runAnswer sheet proposals schedule (length out)
+    pub run-done : bad ≡ 0 → recordLength (partiesOf sheet) ≤ length out → done ≡ runAnswer sheet proposals schedule (length out)
     unfolding runAt
-    run-done e l = sym (ap runAt (sym opened) ∙ rw (eq-eqb bad 0 e, le-ltb (length out) (recordLength (getD sheet 5 0)) l))
+    run-done e l = sym (ap runAt (sym opened) ∙ rw (eq-eqb bad 0 e, le-ltb (length out) (recordLength (partiesOf sheet)) l))
 
   -- ---- the output
 
@@ -64,7 +65,7 @@ module _ (sheet proposals schedule out : List ℕ) where
   run-refused v r o e = (e, sym (ap outAt (sym e) ∙ rw (refused-number (answerOf v) v r refl o)))
 
   pub out-written : done ≡ runAnswer sheet proposals schedule (length out)
-      → recordBytes (getD sheet 5 0) (ran sheet proposals schedule .parties) ++ drop (recordLength (getD sheet 5 0)) out
+      → recordBytes (partiesOf sheet) (ran sheet proposals schedule .parties) ++ drop (recordLength (partiesOf sheet)) out
       ≡ runOut sheet proposals schedule out
   unfolding outAt
   out-written e = ap outAt e

@@ -6,7 +6,8 @@ use mathlib.Core.Bool.{Bool, true, false, cond}
 use native.Mathlib.Omega.{arith}
 use borrow.Author.Tests.{ltb-true, ltb-false, eq-eqb}
 use lib.Dec.{T, ltb, eqb}
-use lib.ListN.{length, getD}
+use lib.ListN.{length}
+use Rattle.sheet.specs.Rows.{partiesOf}
 use Rattle.sheet.specs.Lists.{all}
 use Rattle.sheet.specs.Words.{Rules6}
 use Rattle.sheet.proofs.Folds.{and-left, and-right, and-both, held}
@@ -28,9 +29,9 @@ use Rattle.session.proofs.Obeying.{Good, byte-good, entry-reached}
 abbrev status : Session → ℕ → ℕ
 status s i = partyOf (stop s i .parties) i .status
 
-module _ (sheet proposals : List ℕ) (rules : Rules6 sheet) (count : length proposals ≡ getD sheet 5 0) where
+module _ (sheet proposals : List ℕ) (rules : Rules6 sheet) (count : length proposals ≡ partiesOf sheet) where
   abbrev n : ℕ
-  n = getD sheet 5 0
+  n = partiesOf sheet
 
   -- ---- a call
 

@@ -6,7 +6,7 @@ use native.Mathlib.Omega.{arith}
 use native.Mathlib.Nat.{mul-le-mul}
 use native.Mathlib.Decide.{ℕ-discrete}
 use borrow.Author.Tests.{eq-eqb, ne-eqb}
-use lib.ListN.{getD}
+use Rattle.sheet.specs.Rows.{partiesOf}
 use Rattle.sheet.specs.Words.{Rules6}
 use Rattle.state.specs.Session.{layout, partyOf}
 use Rattle.state.specs.declared.kept.Session.{Session}
@@ -41,12 +41,12 @@ module _ {sheet proposals : List ℕ} (s : Session) (K : Kept sheet proposals s)
       (at-limit (K .invariant) (K .limited) i least most (omega (arith, l, limit-spared (layout s .parties) i least most))))
 
 module _ (sheet proposals : List ℕ) (rules : Rules6 sheet) {s : Session} (R : Reached sheet proposals s)
-    (i : ℕ) (least : 1 ≤ i) (most : i ≤ getD sheet 5 0) where
+    (i : ℕ) (least : 1 ≤ i) (most : i ≤ partiesOf sheet) where
   inside : i ≤ layout s .parties
   inside = omega (arith, reached-parties sheet proposals rules R)
 
-  pub reached-limit : partyOf (s .parties) i .steps ≤ stepLimit (getD sheet 5 0) i
+  pub reached-limit : partyOf (s .parties) i .steps ≤ stepLimit (partiesOf sheet) i
   reached-limit = rw (reached-parties sheet proposals rules R) at (kept-limit s (reached-kept sheet proposals rules R) i least inside)
 
-  pub reached-decides : stepLimit (getD sheet 5 0) i ≤ partyOf (s .parties) i .steps → partyOf (s .parties) i .status ≡ 2
+  pub reached-decides : stepLimit (partiesOf sheet) i ≤ partyOf (s .parties) i .steps → partyOf (s .parties) i .status ≡ 2
   reached-decides l = kept-decides s (reached-kept sheet proposals rules R) i least inside (rw (reached-parties sheet proposals rules R) l)

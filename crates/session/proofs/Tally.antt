@@ -9,7 +9,8 @@ use native.Mathlib.Decide.{ℕ-discrete}
 use native.Mathlib.Omega.{arith}
 use borrow.Author.Tests.{eq-eqb, ne-eqb, lt-ltb, le-ltb}
 use lib.Dec.{T, eqb}
-use lib.ListN.{length, getD}
+use lib.ListN.{length}
+use Rattle.sheet.specs.Rows.{partiesOf}
 use Rattle.sheet.specs.Lists.{all}
 use Rattle.sheet.specs.Words.{Rules6}
 use Rattle.sheet.proofs.Folds.{and-left, and-right, lt-or-le}
@@ -30,10 +31,10 @@ use Rattle.session.proofs.Obeying.{Good, byte-good, entry-reached, step
 abbrev pub stepsOf : Session → ℕ → ℕ
 stepsOf s i = partyOf (s .parties) i .steps
 
-module _ (sheet proposals : List ℕ) (rules : Rules6 sheet) (count : length proposals ≡ getD sheet 5 0)
-    (i : ℕ) (least : 1 ≤ i) (most : i ≤ getD sheet 5 0) where
+module _ (sheet proposals : List ℕ) (rules : Rules6 sheet) (count : length proposals ≡ partiesOf sheet)
+    (i : ℕ) (least : 1 ≤ i) (most : i ≤ partiesOf sheet) where
   abbrev n : ℕ
-  n = getD sheet 5 0
+  n = partiesOf sheet
 
   module _ {s : Session} (R : Reached sheet proposals s) where
     abbrev p : Party

@@ -3,8 +3,8 @@ use Prim.Native.Nat.{ℕ, _<_}
 use mathlib.Core.Path.{_≡_, sym, subst}
 use mathlib.Core.List.{List}
 use native.Mathlib.Omega.{arith}
-use lib.ListN.{length, getD}
-use Rattle.sheet.specs.Rows.{layoutOf, slot}
+use lib.ListN.{length}
+use Rattle.sheet.specs.Rows.{layoutOf, slot, partiesOf}
 use Rattle.sheet.specs.Rules.{writes}
 use Rattle.sheet.specs.Words.{In, IsSlot, Rules6}
 use Rattle.sheet.specs.declared.rows.Row.{Row}
@@ -17,7 +17,7 @@ use Rattle.session.proofs.RowOf.{own-in-memory, pair-in-memory}
 
 module _ (sheet : List ℕ) (rules : Rules6 sheet) (marks : List ℕ) (full : length marks ≡ 1024) where
   abbrev n : ℕ
-  n = getD sheet 5 0
+  n = partiesOf sheet
 
   abbrev row : ℕ → ℕ → Row
   row r i = layoutOf sheet .row (slot r i)

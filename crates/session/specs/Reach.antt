@@ -5,6 +5,7 @@ use mathlib.Core.List.{List}
 use mathlib.Core.Bool.{cond}
 use lib.ListN.{getD}
 use lib.Dec.{eqb}
+use Rattle.sheet.specs.Rows.{partiesOf}
 use Rattle.state.specs.Session.{freshSession, partyOf}
 use Rattle.state.specs.declared.kept.Session.{Session}
 use Rattle.session.specs.Step.{step, stop}
@@ -17,7 +18,7 @@ pub data Leads (n : ℕ) (s : Session) : Session → Type 0 where
 
 -- reached from the fresh session with a sheet and proposals
 abbrev pub Reached : List ℕ → List ℕ → Session → Type 0
-Reached sheet proposals s = Leads (getD sheet 5 0) (freshSession sheet proposals (getD sheet 5 0)) s
+Reached sheet proposals s = Leads (partiesOf sheet) (freshSession sheet proposals (partiesOf sheet)) s
 
 -- all parties that have decided have decided the proposal of one same party h, which has announced
 pub record Agreed (n : ℕ) (proposals : List ℕ) (s : Session) (h : ℕ) : Type 0 where

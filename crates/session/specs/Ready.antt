@@ -2,8 +2,7 @@
 use Prim.Native.Nat.{ℕ, _≤_, _<_}
 use mathlib.Core.Path.{_≡_}
 use mathlib.Core.List.{List}
-use lib.ListN.{getD}
-use Rattle.sheet.specs.Rows.{slot}
+use Rattle.sheet.specs.Rows.{slot, partiesOf}
 use Rattle.sheet.specs.Words.{IsSlot, Rules5}
 use Rattle.state.specs.Words.{PartyRule}
 use Rattle.state.specs.declared.kept.Party.{Party}
@@ -11,12 +10,12 @@ use Rattle.state.specs.declared.kept.Party.{Party}
 -- the party's round has a row of j
 pub record ReadyAt (sheet : List ℕ) (j : ℕ) (p : Party) : Type 0 where
   pub rules : Rules5 sheet
-  pub row : IsSlot (getD sheet 5 0) (slot (p .round) j)
+  pub row : IsSlot (partiesOf sheet) (slot (p .round) j)
   pub steps : p .steps ≤ 1000
 
 pub record Ready (sheet published : List ℕ) (i : ℕ) (p : Party) (n : ℕ) : Type 0 where
   pub rules : Rules5 sheet
-  pub parties : n ≡ getD sheet 5 0
+  pub parties : n ≡ partiesOf sheet
   pub least : 1 ≤ i
   pub most : i ≤ n
   pub party : PartyRule n published i p

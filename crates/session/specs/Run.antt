@@ -2,8 +2,9 @@
 use Prim.Native.Nat.{ℕ, _+_, _-_}
 use mathlib.Core.List.{List, [], _∷_, _++_}
 use mathlib.Core.Bool.{Bool, _||_, cond}
-use lib.ListN.{length, getD, drop}
+use lib.ListN.{length, drop}
 use lib.Dec.{ltb, eqb}
+use Rattle.sheet.specs.Rows.{partiesOf}
 use Rattle.sheet.specs.Lists.{firstBad}
 use Rattle.answers.specs.Answers.{Answer, answer, done}
 use Rattle.sheet.specs.Check.{within}
@@ -31,7 +32,7 @@ obeyed s (b ∷ bs) = obeyed (entry s b) bs
 
 abbrev pub runAnswer : List ℕ → List ℕ → List ℕ → ℕ → Answer
 runAnswer sheet proposals schedule len =
-    let n = getD sheet 5 0 in
+    let n = partiesOf sheet in
     let bad = firstBad (byteOk n) 1 schedule in
     cond (eqb (openAnswer sheet proposals .number) 0)
     (cond (eqb bad 0) (cond (ltb len (recordLength n)) (answer 11 0) done) (answer 8 (bad - 1)))
@@ -39,11 +40,11 @@ runAnswer sheet proposals schedule len =
 
 -- the session that the schedule leads to
 abbrev pub ran : List ℕ → List ℕ → List ℕ → Session
-ran sheet proposals schedule = obeyed (freshSession sheet proposals (getD sheet 5 0)) schedule
+ran sheet proposals schedule = obeyed (freshSession sheet proposals (partiesOf sheet)) schedule
 
 -- the output afterwards: the record, and past it what was there; after a refusal all that was there
 abbrev pub runOut : List ℕ → List ℕ → List ℕ → List ℕ → List ℕ
 runOut sheet proposals schedule out =
-    let n = getD sheet 5 0 in
+    let n = partiesOf sheet in
     cond (eqb (runAnswer sheet proposals schedule (length out) .number) 0)
     (recordBytes n (ran sheet proposals schedule .parties) ++ drop (recordLength n) out) out

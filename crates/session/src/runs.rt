@@ -1,8 +1,9 @@
 // The run of a whole schedule.
 ghost use mathlib.Core.Path.{_≡_};
 ghost use Prim.Native.Nat.{_≤_};
-ghost use lib.ListN.{length, getD};
+ghost use lib.ListN.{length};
 ghost use lib.Dec.{T};
+ghost use Rattle.sheet.specs.Rows.{partiesOf};
 ghost use Rattle.sheet.specs.Lists.{all, firstBad};
 ghost use Rattle.sheet.specs.Words.{Rules6};
 ghost use Rattle.answers.specs.Answers.{answerOf};
@@ -56,7 +57,7 @@ fn first_bad_byte(schedule: &[u8], n: u8) -> usize
 
 // Obeys a schedule of good bytes on an accepted sheet, from a fresh session: the parties at the end.
 fn obey(sheet: &[u8], proposals: &[u32], schedule: &[u8], n: u8) -> [Party; 16]
-    requires { ⌜ (Rules6 (now sheet)) × (n ≡ getD (now sheet) 5 0) × (length (now proposals) ≡ n) × (T (all (byteOk n) (now schedule))) ⌝ }
+    requires { ⌜ (Rules6 (now sheet)) × (n ≡ partiesOf (now sheet)) × (length (now proposals) ≡ n) × (T (all (byteOk n) (now schedule))) ⌝ }
     ensures { λ r. ⌜ r ≡ ran (now (sheet .entry)) (now (proposals .entry)) (now (schedule .entry)) .parties ⌝ }
 {
     let kept = opening::proposals_copy(proposals);

@@ -6,10 +6,10 @@ use mathlib.Core.List.{List}
 use native.Mathlib.Nat.{le-refl}
 use native.Mathlib.Omega.{arith}
 use lib.Dec.{T}
-use lib.ListN.{length, getD}
+use lib.ListN.{length}
 use Rattle.sheet.specs.Bytes.{num}
 use Rattle.sheet.specs.Sets.{legal, below, apart}
-use Rattle.sheet.specs.Rows.{Layout, slot, sameSlot, sheetLength}
+use Rattle.sheet.specs.Rows.{Layout, slot, sameSlot, sheetLength, partiesOf}
 use Rattle.sheet.specs.Rules.{writes, rowRule, ownAlone, setApart, pairShared, writerRule}
 use Rattle.sheet.specs.Check.{within, headerOk, lengthOk}
 use Rattle.sheet.specs.Words.{In, IsSlot, Other, Lower, Top, RowRule, WriterRule, HeaderRule, LengthRule, Every}
@@ -57,7 +57,7 @@ header-says l =
 
 pub length-says : (s : List ℕ) → T (lengthOk s) ↔ LengthRule s
 length-says s =
-    let whole = sheetLength (getD s 5 0) in
+    let whole = sheetLength (partiesOf s) in
     let parts = and-words (eq-words (num s 0 2) whole) (λ _. eq-words (length s) whole) in
     (λ t. let (a, b) = parts .says .0 t in record { field = a; lent = b }, λ r. parts .says .1 (r .field, r .lent))
 

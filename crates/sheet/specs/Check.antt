@@ -7,7 +7,7 @@ use lib.Dec.{leb, ltb, eqb}
 use Rattle.answers.specs.Answers.{Answer, answer, done}
 use Rattle.sheet.specs.Lists.{firstBad}
 use Rattle.sheet.specs.Bytes.{num}
-use Rattle.sheet.specs.Rows.{Layout, layoutOf, slots, sheetLength}
+use Rattle.sheet.specs.Rows.{Layout, layoutOf, slots, sheetLength, partiesOf}
 use Rattle.sheet.specs.Rules.{rowRule, writerRule}
 
 abbrev pub within : ℕ → ℕ → ℕ → Bool
@@ -23,7 +23,7 @@ headerOk l = numbersOk (l .kind) (l .bound) (l .parties) && within 1 1024 (l .un
 
 -- the length field and the lent length
 abbrev pub lengthOk : List ℕ → Bool
-lengthOk s = eqb (num s 0 2) (sheetLength (getD s 5 0)) && eqb (length s) (sheetLength (getD s 5 0))
+lengthOk s = eqb (num s 0 2) (sheetLength (partiesOf s)) && eqb (length s) (sheetLength (partiesOf s))
 
 -- refusal number n at the first failing row k, or what comes after where there is none
 abbrev pub unlessRow : ℕ → ℕ → Answer → Answer

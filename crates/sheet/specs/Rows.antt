@@ -53,6 +53,10 @@ isTop p = eqb (p .party) (p .round)
 abbrev pub sameSlot : Slot → Slot → Bool
 sameSlot p q = eqb (p .round) (q .round) && eqb (p .party) (q .party)
 
+-- how many parties a sheet is for
+abbrev pub partiesOf : List ℕ → ℕ
+partiesOf s = getD s 5 0
+
 -- what a sheet says
 pub record Layout : Type 0 where
   pub kind : ℕ
@@ -66,7 +70,7 @@ layoutOf s =
     record {
       kind = getD s 3 0;
       bound = getD s 4 0;
-      parties = getD s 5 0;
+      parties = partiesOf s;
       units = num s 6 2;
       row = λ p. rowAt s (rowNumber p - 1);
     }

@@ -1,9 +1,8 @@
 // The header, the lengths and the row rule.
 ghost use mathlib.Core.Path.{_≡_};
 ghost use Prim.Native.Nat.{_≤_};
-ghost use lib.ListN.{getD};
 ghost use Rattle.sheet.specs.Lists.{firstBad};
-ghost use Rattle.sheet.specs.Rows.{layoutOf, slots};
+ghost use Rattle.sheet.specs.Rows.{layoutOf, slots, partiesOf};
 ghost use Rattle.sheet.specs.Rules.{rowFits, rowRule};
 ghost use Rattle.sheet.specs.Check.{within, numbersOk, headerOk, lengthOk};
 ghost use Rattle.sheet.specs.Words.{Rules1, Rules3, Rules4};
@@ -79,7 +78,7 @@ fn row_fits(kind: u8, bound: u64, units: u16, top: bool, w: Row) -> bool
 // The first row, counted from 1, that breaks the row rule, or 0.
 pub(crate) fn first_bad_row(s: &[u8]) -> usize
     requires { ⌜ Rules4 (now s) ⌝ }
-    ensures { λ r. ⌜ r ≡ firstBad (rowRule (layoutOf (now (s .entry)))) 1 (slots (getD (now (s .entry)) 5 0)) ⌝ }
+    ensures { λ r. ⌜ r ≡ firstBad (rowRule (layoutOf (now (s .entry)))) 1 (slots (partiesOf (now (s .entry)))) ⌝ }
 {
     let kind = s[3];
     let bound = bytes::wide(s[4]);

@@ -4,10 +4,10 @@ use mathlib.Core.Path.{_≡_, sym, ap, _∙_}
 use mathlib.Core.List.{List}
 use native.Mathlib.Nat.{min-le-right}
 use native.Mathlib.Omega.{arith, min-cases}
-use lib.ListN.{length, getD, take, length-take}
+use lib.ListN.{length, take, length-take}
 use lib.Seq.{take-all, take-length, getD-take}
 use Rattle.sheet.specs.Bytes.{num}
-use Rattle.sheet.specs.Rows.{layoutOf}
+use Rattle.sheet.specs.Rows.{layoutOf, partiesOf}
 use Rattle.sheet.specs.Words.{Rules6}
 use Rattle.sheet.proofs.Numbers.{num-read}
 use Rattle.state.specs.Session.{carriedOf}
@@ -36,7 +36,7 @@ module _ (s : List ℕ) (r : Rules6 (carriedOf s)) where
   field : 8 ≤ num s 0 2
   field = let l = length-take (num s 0 2) s in let w = whole in omega arith
 
-  pub carried-parties : layoutOf (carriedOf s) .parties ≡ getD s 5 0
+  pub carried-parties : layoutOf (carriedOf s) .parties ≡ partiesOf s
   carried-parties = let f = field in getD-take (num s 0 2) s 5 0 (omega arith)
 
   pub carried-units : layoutOf (carriedOf s) .units ≡ num s 6 2
@@ -50,5 +50,5 @@ module _ (s : List ℕ) (r : Rules6 (carriedOf s)) where
   pub copy-whole : 8 ≤ length s
   copy-whole = let l = length-take (num s 0 2) s in let w = whole in omega arith
 
-  pub most-parties : getD s 5 0 ≤ 16
+  pub most-parties : partiesOf s ≤ 16
   most-parties = let e = carried-parties in let h = r .before .before .before .header .partiesMost in omega arith

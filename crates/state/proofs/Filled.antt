@@ -5,6 +5,7 @@ use mathlib.Core.List.{List, _++_, map}
 use native.Mathlib.Omega.{arith}
 use lib.ListN.{length, getD, take, replicate, length-append, length-replicate, List·getD-append}
 use lib.Seq.{take-all, take-append-le, take-append-seam, getD-append-add}
+use Rattle.sheet.specs.Rows.{partiesOf}
 use Rattle.sheet.specs.Lists.{from}
 use Rattle.sheet.specs.Bytes.{num, bigFrom}
 use Rattle.sheet.specs.Words.{Rules6}
@@ -70,7 +71,7 @@ fresh-past n i l = behind (map freshParty (from 1 n)) (16 - n) (i - 1) noParty (
 pub sheet-most : (sheet : List ℕ) → Rules6 sheet → length sheet ≤ 1898
 sheet-most sheet rules =
     let four = rules .before .before in
-    omega (arith, four .lengths .lent, count-most (getD sheet 5 0) (four .before .header .partiesMost))
+    omega (arith, four .lengths .lent, count-most (partiesOf sheet) (four .before .header .partiesMost))
 
 pub carried-copy : (sheet : List ℕ) → Rules6 sheet → (s : Session) → s .sheet ≡ filled 1898 sheet → carried s ≡ sheet
 carried-copy sheet rules s copy =
@@ -88,5 +89,5 @@ carried-copy sheet rules s copy =
 pub carried-rules : (sheet : List ℕ) → Rules6 sheet → (s : Session) → s .sheet ≡ filled 1898 sheet → Rules6 (carried s)
 carried-rules sheet rules s copy = subst Rules6 (sym (carried-copy sheet rules s copy)) rules
 
-pub carried-parties : (sheet : List ℕ) → Rules6 sheet → (s : Session) → s .sheet ≡ filled 1898 sheet → layout s .parties ≡ getD sheet 5 0
-carried-parties sheet rules s copy = ap (λ (x : List ℕ). getD x 5 0) (carried-copy sheet rules s copy)
+pub carried-parties : (sheet : List ℕ) → Rules6 sheet → (s : Session) → s .sheet ≡ filled 1898 sheet → layout s .parties ≡ partiesOf sheet
+carried-parties sheet rules s copy = ap (λ (x : List ℕ). partiesOf x) (carried-copy sheet rules s copy)

@@ -7,7 +7,8 @@ use mathlib.Core.Logic.{_≢_}
 use native.Mathlib.Omega.{arith}
 use borrow.Author.Tests.{eq-eqb, ne-eqb, eqb-true, eqb-false}
 use lib.Dec.{T, eqb}
-use lib.ListN.{length, getD}
+use lib.ListN.{length}
+use Rattle.sheet.specs.Rows.{partiesOf}
 use Rattle.answers.specs.Answers.{Answer, answer, done}
 use Rattle.sheet.specs.Check.{checkAnswer}
 use Rattle.sheet.specs.Words.{Rules6}
@@ -43,7 +44,7 @@ module _ (sheet proposals : List ℕ) where
 
   -- a proposal for each party
   abbrev each : Bool
-  each = eqb (length proposals) (getD sheet 5 0)
+  each = eqb (length proposals) (partiesOf sheet)
 
   pub not-accepted : eqb (checkAnswer sheet .number) 0 ≡ false → checkAnswer sheet ≡ openAnswer sheet proposals
   not-accepted e = told-a ok each (checkAnswer sheet) e
@@ -52,27 +53,27 @@ module _ (sheet proposals : List ℕ) where
     is-ok : ok ≡ true
     is-ok = ap (λ (a : Answer). eqb (a .number) 0) e
 
-    pub miscounted : length proposals ≢ getD sheet 5 0 → answer 7 0 ≡ openAnswer sheet proposals
-    miscounted n = told-7 ok each (checkAnswer sheet) is-ok (ne-eqb (length proposals) (getD sheet 5 0) n)
+    pub miscounted : length proposals ≢ partiesOf sheet → answer 7 0 ≡ openAnswer sheet proposals
+    miscounted n = told-7 ok each (checkAnswer sheet) is-ok (ne-eqb (length proposals) (partiesOf sheet) n)
 
-    pub opens : length proposals ≡ getD sheet 5 0 → done ≡ openAnswer sheet proposals
-    opens n = told-0 ok each (checkAnswer sheet) is-ok (eq-eqb (length proposals) (getD sheet 5 0) n)
+    pub opens : length proposals ≡ partiesOf sheet → done ≡ openAnswer sheet proposals
+    opens n = told-0 ok each (checkAnswer sheet) is-ok (eq-eqb (length proposals) (partiesOf sheet) n)
 
   -- where it is opened, both hold
-  pub opens-says : openAnswer sheet proposals ≡ done → Rules6 sheet × (length proposals ≡ getD sheet 5 0)
+  pub opens-says : openAnswer sheet proposals ≡ done → Rules6 sheet × (length proposals ≡ partiesOf sheet)
   opens-says e =
       let (t, counted, _) = opens-when ok each (checkAnswer sheet) done refl (ap (λ (a : Answer). a .number) e) in
-      (accepted-says sheet .0 t, eqb-true (length proposals) (getD sheet 5 0) counted)
+      (accepted-says sheet .0 t, eqb-true (length proposals) (partiesOf sheet) counted)
 
   -- ---- the session by the answer
 
   -- the session where the answer is a
   openedAt : Answer → Session
-  openedAt a = cond (eqb (a .number) 0) (freshSession sheet proposals (getD sheet 5 0)) (freshSession [] [] 0)
+  openedAt a = cond (eqb (a .number) 0) (freshSession sheet proposals (partiesOf sheet)) (freshSession [] [] 0)
 
   pub opened-blank : eqb (openAnswer sheet proposals .number) 0 ≡ false → freshSession [] [] 0 ≡ opened sheet proposals
-  opened-blank e = ap (λ (b : Bool). cond b (freshSession sheet proposals (getD sheet 5 0)) (freshSession [] [] 0)) (sym e)
+  opened-blank e = ap (λ (b : Bool). cond b (freshSession sheet proposals (partiesOf sheet)) (freshSession [] [] 0)) (sym e)
 
-  pub opened-fresh : openAnswer sheet proposals ≡ done → freshSession sheet proposals (getD sheet 5 0) ≡ opened sheet proposals
+  pub opened-fresh : openAnswer sheet proposals ≡ done → freshSession sheet proposals (partiesOf sheet) ≡ opened sheet proposals
   unfolding openedAt
   opened-fresh e = ap openedAt (sym e)

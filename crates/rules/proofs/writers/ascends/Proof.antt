@@ -5,9 +5,9 @@ use mathlib.Core.Path.{_≡_, refl, sym, ap, _∙_}
 use native.Mathlib.Omega.{arith}
 use borrow.Author.Needs.{needs}
 use lib.Dec.{eqb}
-use lib.ListN.{getD, drop}
+use lib.ListN.{drop}
 use Rattle.rules.specs.Quick.{edge, edgeAfter, edgeOver}
-use Rattle.sheet.specs.Rows.{slots, layoutOf}
+use Rattle.sheet.specs.Rows.{slots, layoutOf, partiesOf}
 use Rattle.rules.specs.declared.writers.Edge.{Edge}
 use Rattle.sheet.proofs.RowLoop.{Going, going-first, going-row, going-place, going-on, going-left, going-end}
 use Rattle.rules.proofs.writers.ascends.Statement.{statement}
@@ -15,7 +15,7 @@ use Rattle.rules.proofs.writers.ascends.Tie as tie
 
 abbrev Inv-loop : tie.InvT-loop
 Inv-loop s count e₀ p₀ k₀ e p k =
-    Going s count k p × (edgeOver (layoutOf s) (slots (getD s 5 0)) (edge true 0 0) ≡ edgeOver (layoutOf s) (drop k (slots (getD s 5 0))) e)
+    Going s count k p × (edgeOver (layoutOf s) (slots (partiesOf s)) (edge true 0 0) ≡ edgeOver (layoutOf s) (drop k (slots (partiesOf s))) e)
 
 abbrev μ-loop : tie.MeasureT-loop
 μ-loop s count e₀ p₀ k₀ e p k = count - k

@@ -6,10 +6,10 @@ use mathlib.Core.Path.{_≡_, refl, sym, ap, _∙_}
 use native.Mathlib.Omega.{arith}
 use borrow.Author.Needs.{needs}
 use borrow.Author.Tests.{not-true, not-false}
-use lib.ListN.{length, getD}
+use lib.ListN.{length}
 use Rattle.sheet.specs.Lists.{from, all}
 use Rattle.rules.specs.Quick.{beside, aloneInRound, clearOfRounds}
-use Rattle.sheet.specs.Rows.{slot, rowCount, rowNumber, rowAt, layoutOf, taken}
+use Rattle.sheet.specs.Rows.{slot, rowCount, rowNumber, rowAt, layoutOf, taken, partiesOf}
 use Rattle.sheet.specs.Words.{IsSlot, Rules4}
 use Rattle.sheet.specs.declared.rows.Row.{Row}
 use Rattle.sheet.specs.declared.rows.Slot.{Slot}
@@ -19,22 +19,22 @@ use Rattle.sheet.proofs.Slots.{AtRow, count-most, slot-row, round-number, round
 use Rattle.rules.proofs.writers.writer_fits.Statement.{statement}
 use Rattle.rules.proofs.writers.writer_fits.Tie as tie
 
-inside : (s : List ℕ) (p : Slot) (k : ℕ) → Rules4 s → IsSlot (getD s 5 0) p → k + 1 ≡ rowNumber p
+inside : (s : List ℕ) (p : Slot) (k : ℕ) → Rules4 s → IsSlot (partiesOf s) p → k + 1 ≡ rowNumber p
     → (k + 1 - p .party + p .round ≤ 135) × (8 + 14 * (k + 1 - p .party + p .round) ≤ length s)
 inside s p k r h e =
     let base = ap (λ (m : ℕ). m - p .party + p .round) e in
-    let in-sheet = round-inside (getD s 5 0) p h in
-    let most = count-most (getD s 5 0) (r .before .header .partiesMost) in
+    let in-sheet = round-inside (partiesOf s) p h in
+    let most = count-most (partiesOf s) (r .before .header .partiesMost) in
     let lent = r .lengths .lent in
     (omega arith, omega arith)
 
 -- the row that is read is p's
-own-row : (s : List ℕ) (p : Slot) (k : ℕ) → Rules4 s → IsSlot (getD s 5 0) p → k + 1 ≡ rowNumber p → (t : Taken) → t ≡ taken s k → t .row ≡ layoutOf s .row p
+own-row : (s : List ℕ) (p : Slot) (k : ℕ) → Rules4 s → IsSlot (partiesOf s) p → k + 1 ≡ rowNumber p → (t : Taken) → t ≡ taken s k → t .row ≡ layoutOf s .row p
 own-row s p k r h e t o =
     let at : AtRow k p = record { number = sym e; first = h .first; lowest = h .lowest; top = h .top } in
-    let last = slot-row (getD s 5 0) p h .1 in
-    let few : k < rowCount (getD s 5 0) = omega arith in
-    going-row s (rowCount (getD s 5 0)) k p (record { rules = r; counted = refl; inside = omega arith; at = at }) few t o
+    let last = slot-row (partiesOf s) p h .1 in
+    let few : k < rowCount (partiesOf s) = omega arith in
+    going-row s (rowCount (partiesOf s)) k p (record { rules = r; counted = refl; inside = omega arith; at = at }) few t o
 
 -- what the round's rows say is what the layout says of the round
 in-round : (s : List ℕ) (p : Slot) (k : ℕ) → k + 1 ≡ rowNumber p → (w : Row) → w ≡ layoutOf s .row p

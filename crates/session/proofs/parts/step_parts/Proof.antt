@@ -6,8 +6,8 @@ use mathlib.Core.List.{List}
 use borrow.Author.Needs.{needs}
 use borrow.Author.Tests.{lt-ltb, le-ltb}
 use native.Mathlib.Omega.{arith}
-use lib.ListN.{length, getD, take, set}
-use Rattle.sheet.specs.Rows.{layoutOf}
+use lib.ListN.{length, take, set}
+use Rattle.sheet.specs.Rows.{layoutOf, partiesOf}
 use Rattle.state.specs.Session.{ofParts, carried, partyOf}
 use Rattle.state.specs.Words.{PartyRule}
 use Rattle.state.specs.declared.kept.Party.{Party}
@@ -121,7 +121,7 @@ act-on-requires c κs =
     let s = session (begins c) in
     let i = begins c .args .party in
     let words = well-formed-says s .0 (k .formed) in
-    let n = getD (s .sheet) 5 0 in
+    let n = partiesOf (s .sheet) in
     let ready : Ready (carried s) (s .published) i (partyOf (s .parties) i) n =
     record {
       rules = words .sheet .before;

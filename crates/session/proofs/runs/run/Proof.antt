@@ -7,7 +7,8 @@ use native.Mathlib.Omega.{arith}
 use borrow.Author.Needs.{needs}
 use borrow.Author.Tests.{not-true, not-false}
 use lib.Dec.{T}
-use lib.ListN.{length, getD, drop}
+use lib.ListN.{length, drop}
+use Rattle.sheet.specs.Rows.{partiesOf}
 use Rattle.answers.specs.Answers.{answer, done, answerOf}
 use Rattle.sheet.specs.Lists.{all, firstBad}
 use Rattle.sheet.specs.Words.{Rules6}
@@ -34,23 +35,23 @@ entry c = c .before .before .before .before .before .before .before .before
 opening : (c : tie.After-shared-slice-known4) → done ≡ openAnswer (entry c .args .sheet .now) (entry c .args .proposals .now)
 opening c = sym (ap answerOf (c .before .enum-told2 .given .1)) ∙ c .before .before .before .opens .ensures
 
-says : (c : tie.After-shared-slice-known4) → Rules6 (entry c .args .sheet .now) × (length (entry c .args .proposals .now) ≡ getD (entry c .args .sheet .now) 5 0)
+says : (c : tie.After-shared-slice-known4) → Rules6 (entry c .args .sheet .now) × (length (entry c .args .proposals .now) ≡ partiesOf (entry c .args .sheet .now))
 says c = opens-says (entry c .args .sheet .now) (entry c .args .proposals .now) (sym (opening c))
 
-few : (c : tie.After-shared-slice-known4) → getD (entry c .args .sheet .now) 5 0 ≤ 16
+few : (c : tie.After-shared-slice-known4) → partiesOf (entry c .args .sheet .now) ≤ 16
 few c = says c .0 .before .before .before .header .partiesMost
 
 -- the first bad byte, as the definition has it
 abbrev first : tie.After-shared-slice-known4 → ℕ
-first c = firstBad (byteOk (getD (entry c .args .sheet .now) 5 0)) 1 (entry c .args .schedule .now)
+first c = firstBad (byteOk (partiesOf (entry c .args .sheet .now))) 1 (entry c .args .schedule .now)
 
 some-bad : (c : tie.Then1) → first (c .before .before) ≢ 0
 some-bad c e =
     let a = entry (c .before .before) .args in
     failed _ (sym (c .before .schedule-ok .ensures) ∙ not-true _ (c .if1 .taken))
-    (none-first (byteOk (getD (a .sheet .now) 5 0)) 1 (a .schedule .now) (omega arith) e)
+    (none-first (byteOk (partiesOf (a .sheet .now))) 1 (a .schedule .now) (omega arith) e)
 
-all-good : (c : tie.Else1) → T (all (byteOk (getD (entry (c .before .before) .args .sheet .now) 5 0)) (entry (c .before .before) .args .schedule .now))
+all-good : (c : tie.Else1) → T (all (byteOk (partiesOf (entry (c .before .before) .args .sheet .now))) (entry (c .before .before) .args .schedule .now))
 all-good c = held _ (sym (c .before .schedule-ok .ensures) ∙ not-false _ (c .if1 .left))
 
 none-bad : (c : tie.Else1) → first (c .before .before) ≡ 0
@@ -113,7 +114,7 @@ returns-4 c =
     let fits = c .before .before .before .before .before in
     let past = fits .before .before .before in
     let a = entry past .args in
-    let n = getD (a .sheet .now) 5 0 in
+    let n = partiesOf (a .sheet .now) in
     let e = run-done (a .sheet .now) (a .proposals .now) (a .schedule .now) (a .out .now) (opening past) (none-bad (fits .before)) (omega arith) in (
       e,
       recorded n _ (a .out .now) _ (few past) (omega arith) (c .before .before .put-record .ensures)

@@ -2,7 +2,8 @@
 use mathlib.Core.Path.{_≡_, sym, ap, _∙_}
 use borrow.Author.Needs.{needs}
 use native.Mathlib.Omega.{arith}
-use lib.ListN.{length, getD}
+use lib.ListN.{length}
+use Rattle.sheet.specs.Rows.{partiesOf}
 use Rattle.answers.specs.Answers.{done, answerOf}
 use Rattle.sheet.specs.Words.{Rules6}
 use Rattle.state.specs.Opening.{openAnswer}
@@ -27,7 +28,7 @@ entry c = c .before .before .before .before .before
 is-done : (c : tie.After-enum-told2) → openAnswer (entry c .args .sheet .now) (entry c .args .proposals .now) ≡ done
 is-done c = sym (c .before .before .opens .ensures) ∙ ap answerOf (c .enum-told2 .given .1)
 
-says : (c : tie.After-enum-told2) → Rules6 (entry c .args .sheet .now) × (length (entry c .args .proposals .now) ≡ getD (entry c .args .sheet .now) 5 0)
+says : (c : tie.After-enum-told2) → Rules6 (entry c .args .sheet .now) × (length (entry c .args .proposals .now) ≡ partiesOf (entry c .args .sheet .now))
 says c = opens-says (entry c .args .sheet .now) (entry c .args .proposals .now) (is-done c)
 
 shared-slice-read-fresh-session : tie.Need-shared-slice-read-fresh-session

@@ -3,7 +3,7 @@ use mathlib.Core.Path.{_≡_, sym, ap, _∙_}
 use Prim.Native.Nat.{ℕ, _≤_}
 use native.Mathlib.Omega.{arith}
 use borrow.Author.Needs.{needs}
-use lib.ListN.{getD}
+use Rattle.sheet.specs.Rows.{partiesOf}
 use Rattle.sheet.specs.Words.{Rules6}
 use Rattle.sheet.proofs.Folds.{held, fails, failed}
 use Rattle.state.specs.Session.{ofParts, carried, layout}
@@ -36,7 +36,7 @@ accepted c =
     let sheet = session (start c) .sheet in
     carried-words sheet .says .0 (held (carriedOk sheet) (passed (c .before .sheet-ok .ensures) (c .if1 .left))) .0
 
-count : (c : tie.Else1) → getD (session (start c) .sheet) 5 0 ≡ layout (session (start c)) .parties
+count : (c : tie.Else1) → partiesOf (session (start c) .sheet) ≡ layout (session (start c)) .parties
 count c = sym (carried-parties (session (start c) .sheet) (accepted c))
 
 marks : (c : tie.After-marks-ok)
@@ -82,7 +82,7 @@ returns-4 c =
     let s = session (start (first (second (c .before .before)))) in
     sym (fails (wellFormed s) (λ t. failed _ (stopped (proposals (c .before)) (c .if4 .taken)) (passed-says s .0 t .proposals)))
 
-few : (c : tie.Else1) → getD (session (start c) .sheet) 5 0 ≤ 16
+few : (c : tie.Else1) → partiesOf (session (start c) .sheet) ≤ 16
 few c = most-parties (session (start c) .sheet) (accepted c)
 
 cast-published-ok : tie.Need-cast-published-ok
