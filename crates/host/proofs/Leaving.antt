@@ -119,11 +119,11 @@ module _ (sheet proposals : List ℕ) where
   abbrev ok : Bool
   ok = eqb (checkAnswer sheet .number) 0
 
-  abbrev own : List ℕ
-  own = proposalsFor sheet proposals
+  abbrev numbers : List ℕ
+  numbers = proposalsFor sheet proposals
 
   abbrev fresh : Session
-  fresh = freshSession sheet own n
+  fresh = freshSession sheet numbers n
 
   module _ (t : T ok) where
     few : n ≤ 16
@@ -132,7 +132,7 @@ module _ (sheet proposals : List ℕ) where
     full : Full fresh
     full =
         let size = length-range (λ j. num proposals (4 * j) 4) 0 n in
-        full-fresh sheet own n (sheet-most sheet (accepted-says sheet .0 t)) (omega (arith, few)) few
+        full-fresh sheet numbers n (sheet-most sheet (accepted-says sheet .0 t)) (omega (arith, few)) few
 
   pub open-leaves : (session : List ℕ) → Leaves (hostOpen sheet proposals (length session) .number) session (openBytes sheet proposals session)
   open-leaves session =
@@ -142,40 +142,40 @@ module _ (sheet proposals : List ℕ) where
 
   module _ (schedule out : List ℕ) where
     abbrev written : List ℕ
-    written = recordBytes n (ran sheet own schedule .parties)
+    written = recordBytes n (ran sheet numbers schedule .parties)
 
     -- where the run is done
-    module _ (e : runAnswer sheet own schedule (length out) .number ≡ 0) where
-      past : (openAnswer sheet own .number ≡ 0) × (ltb (length out) (recordLength n) ≡ false)
+    module _ (e : runAnswer sheet numbers schedule (length out) .number ≡ 0) where
+      past : (openAnswer sheet numbers .number ≡ 0) × (ltb (length out) (recordLength n) ≡ false)
       past =
           let bad = firstBad (byteOk n) 1 schedule in
-          ran-when (eqb (openAnswer sheet own .number) 0) (eqb bad 0) (ltb (length out) (recordLength n)) (openAnswer sheet own) _ refl e
+          ran-when (eqb (openAnswer sheet numbers .number) 0) (eqb bad 0) (ltb (length out) (recordLength n)) (openAnswer sheet numbers) _ refl e
 
       record-room : recordLength n ≤ length out
       record-room = ltb-false (length out) (recordLength n) (past .1)
 
       record-size : length written ≡ recordLength n
       record-size =
-          let t = opens-when ok (eqb (length own) n) (checkAnswer sheet) done refl (past .0) .0 in
+          let t = opens-when ok (eqb (length numbers) n) (checkAnswer sheet) done refl (past .0) .0 in
           let size = full-obeyed fresh schedule (full t) .partiesFull in
-          length-record n (ran sheet own schedule .parties) (omega (arith, few t))
+          length-record n (ran sheet numbers schedule .parties) (omega (arith, few t))
 
     abbrev over : List ℕ
     over = written ++ drop (recordLength n) out
 
     -- the record over the front of the output, or the output
-    same-out : {B : Type 0} (f : List ℕ → B) → (runAnswer sheet own schedule (length out) .number ≡ 0 → f over ≡ f out)
-        → f (runOut sheet own schedule out) ≡ f out
-    same-out f same = same-left (runAnswer sheet own schedule (length out) .number) over out f same
+    same-out : {B : Type 0} (f : List ℕ → B) → (runAnswer sheet numbers schedule (length out) .number ≡ 0 → f over ≡ f out)
+        → f (runOut sheet numbers schedule out) ≡ f out
+    same-out f same = same-left (runAnswer sheet numbers schedule (length out) .number) over out f same
 
     -- for any answer of the host's
     module _ (number : ℕ) where
-      pub run-leaves : Leaves number out (cond (eqb number 0) (runOut sheet own schedule out) out)
+      pub run-leaves : Leaves number out (cond (eqb number 0) (runOut sheet numbers schedule out) out)
       run-leaves =
-          leaves number (runOut sheet own schedule out) out (λ _.
+          leaves number (runOut sheet numbers schedule out) out (λ _.
           same-out length (λ e. over-count written out (recordLength n) (record-size e) (record-room e)))
 
-      pub run-past : SamePast (recordLength n) out (cond (eqb number 0) (runOut sheet own schedule out) out)
+      pub run-past : SamePast (recordLength n) out (cond (eqb number 0) (runOut sheet numbers schedule out) out)
       run-past =
-          same-left number (runOut sheet own schedule out) out (drop (recordLength n)) (λ _.
+          same-left number (runOut sheet numbers schedule out) out (drop (recordLength n)) (λ _.
           same-out (drop (recordLength n)) (λ e. drop-at written (drop (recordLength n) out) (recordLength n) (record-size e)))

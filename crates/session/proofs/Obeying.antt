@@ -128,11 +128,11 @@ module _ {s : Session} {parties : List Party} {marks published : List ℕ} (S : 
   held = partyOf parties i
 
   module _ (after : List Party) (ms us : List ℕ) (q : Party) (put : after ≡ set parties (i - 1) q) where
-    pub shows-acted : (l : Layout) (own : List ℕ) → layout s ≡ l → s .proposals ≡ own
-        → q ≡ counted (partyAfter l own marks published i held (placeOf (held .place)))
+    pub shows-acted : (l : Layout) (kept : List ℕ) → layout s ≡ l → s .proposals ≡ kept
+        → q ≡ counted (partyAfter l kept marks published i held (placeOf (held .place)))
         → ms ≡ marksAfter l i held marks (placeOf (held .place))
         → us ≡ publishedAfter i held published (placeOf (held .place)) → Shows (acted s i) after ms us
-    shows-acted l own el eo eq em eu =
+    shows-acted l kept el eo eq em eu =
         record {
           ofParties = put
               ∙ ap (set parties (i - 1)) eq
