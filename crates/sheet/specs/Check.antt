@@ -37,5 +37,6 @@ unlessUnfit s after =
     (cond (not (headerOk (layoutOf s))) (answer 3 0)
     (cond (not (lengthOk s)) (answer 4 0) (unlessRow 5 (firstBad (rowRule (layoutOf s)) 1 (slots (layoutOf s .parties))) after))))
 
+-- the check: those, then 6 at the first row that breaks the writer rule
 abbrev pub checkAnswer : List ℕ → Answer
 checkAnswer s = unlessUnfit s (unlessRow 6 (firstBad (writerRule (layoutOf s)) 1 (slots (layoutOf s .parties))) done)
