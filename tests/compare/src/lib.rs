@@ -1,5 +1,5 @@
 //! The parts shared by the comparison (`src/main.rs`) and the bench
-//! (`src/bin/bench.rs`): the model of document 01, the calls of the linked
+//! (`src/bin/bench/main.rs`): the model of document 01, the calls of the linked
 //! library, the makers of inputs, and the counting of cases.
 
 pub mod crash;

@@ -1,4 +1,4 @@
--- The word is that of the answer which `sheet::check` promises.
+-- The word is that of the answer which `rules::check` promises.
 use borrow.Author.Needs.{needs}
 use mathlib.Core.Path.{ap, _∙_}
 use Rattle.answers.specs.Answers.{Answer}
