@@ -1,7 +1,7 @@
 // One act of a live party on the lent memory: one function for each place, and the dispatch.
 ghost use mathlib.Core.Path.{_≡_};
 ghost use mathlib.Core.Bool.{cond};
-ghost use Prim.Native.Nat.{ℕ, _+_, _-_, _≤_, _<_};
+ghost use Prim.Native.Nat.{ℕ, _≤_, _<_};
 ghost use lib.ListN.{set};
 ghost use lib.Dec.{T, eqb};
 ghost use Rattle.sheet.specs.Sets.{inSet};

@@ -1,6 +1,6 @@
 // Write sets, by start and mask alone.
 ghost use mathlib.Core.Path.{_≡_};
-ghost use Prim.Native.Nat.{_-_, _<_, _≤_, _^_};
+ghost use Prim.Native.Nat.{_-_, _≤_, _^_};
 ghost use Rattle.sheet.specs.Sets.{inSet, sizeVarying, inconsecutive, legal, below, apart};
 ghost use Rattle.sheet.specs.Length.{bitLength};
 
