@@ -82,7 +82,7 @@ fn announce(n: u8, i: u8, p: Party) -> Party
 }
 
 fn publish(published: &mut [u8; 256], i: u8, p: Party) -> Party
-    requires { ⌜ (p .steps ≤ 1000) × (1 ≤ p .round) × (p .round ≤ 16) × (1 ≤ i) × (i ≤ 16) ⌝ }
+    requires { ⌜ (p .steps ≤ 1000) × (p .round ≤ 16) × (i ≤ 16) ⌝ }
     ensures { λ r. ⌜ (r ≡ counted (afterPublish p)) × (now (published .exit) ≡ set (now (published .entry)) (cell (p .round) i) (p .candidate)) ⌝ }
 {
     let at = state::cell_of(p.round, i);
@@ -172,7 +172,7 @@ fn read_pair(sheet: &[u8], marks: &[u8; 1024], n: u8, i: u8, p: Party) -> Party
 }
 
 fn fetch(published: &[u8; 256], n: u8, p: Party) -> Party
-    requires { ⌜ (p .steps ≤ 1000) × (n ≤ 16) × (1 ≤ p .round) × (p .round ≤ 16) × (1 ≤ p .k) × (p .k ≤ 16) ⌝ }
+    requires { ⌜ (p .steps ≤ 1000) × (n ≤ 16) × (p .round ≤ 16) × (p .k ≤ 16) ⌝ }
     ensures { λ r. ⌜ r ≡ counted (afterFetch n (now (published .entry)) p) ⌝ }
 {
     let at = state::cell_of(p.round, p.k);

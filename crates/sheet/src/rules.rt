@@ -5,7 +5,7 @@ ghost use Rattle.sheet.specs.Lists.{firstBad};
 ghost use Rattle.sheet.specs.Rows.{layoutOf, slots, partiesOf};
 ghost use Rattle.sheet.specs.Rules.{rowFits, rowRule};
 ghost use Rattle.sheet.specs.Check.{within, numbersOk, headerOk, lengthOk};
-ghost use Rattle.sheet.specs.Words.{Rules1, Rules3, Rules4};
+ghost use Rattle.sheet.specs.Words.{Rules1, Rules4};
 use crate::bytes;
 use crate::rows;
 use crate::rows::Row;
@@ -42,7 +42,7 @@ pub(crate) fn header_ok(s: &[u8]) -> bool
 }
 
 pub(crate) fn length_ok(s: &[u8]) -> bool
-    requires { ⌜ Rules3 (now s) ⌝ }
+    requires { ⌜ Rules1 (now s) ⌝ }
     ensures { λ r. ⌜ r ≡ lengthOk (now (s .entry)) ⌝ }
 {
     let whole = rows::sheet_length(s[5]);

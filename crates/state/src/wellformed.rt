@@ -188,7 +188,7 @@ fn lower_ok(i: u8, p: Party) -> bool
 
 // Place 6 is the top's, after a witness that has published.
 fn top_ok(published: &[u8; 256], i: u8, p: Party) -> bool
-    requires { ⌜ (p .place ≡ 6 → (1 ≤ p .round) × (p .round ≤ 16) × (1 ≤ p .k) × (p .k ≤ 16)) ⌝ }
+    requires { ⌜ (p .place ≡ 6 → (p .round ≤ 16) × (p .k ≤ 16)) ⌝ }
     ensures { λ r. ⌜ r ≡ topOk (now (published .entry)) i p ⌝ }
 {
     if p.place != 6 {

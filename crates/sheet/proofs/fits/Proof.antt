@@ -53,7 +53,7 @@ returns-3 c =
     sym (at-3 _ done r (λ q. failed _ (sym (c .before .header-ok .ensures) ∙ not-true _ (c .if3 .taken)) (says-3 _ r .says .1 q)))
 
 length-ok-requires : tie.Need-length-ok-requires
-length-ok-requires c κs = rules3 c
+length-ok-requires c κs = rules3 c .before .before
 
 returns-4 : tie.Need-returns-4
 returns-4 c =

@@ -14,16 +14,16 @@ use Rattle.state.proofs.FormWords.{round-words, scan-words}
 use Rattle.state.proofs.wellformed.party_ok.Statement.{statement}
 use Rattle.state.proofs.wellformed.party_ok.Tie as tie
 
--- a party at place 6 has a round and a scan number, where the tests of these are passed
+-- of a party at place 6 round and scan number are at most 16, where the tests of these are passed
 scanned : (n i : ℕ) (p : Party) → n ≤ 16 → T (rangesOk n p && roundOk n i p && scanOk p && lowerOk i p) → p .place ≡ 6
-    → (1 ≤ p .round) × (p .round ≤ 16) × (1 ≤ p .k) × (p .k ≤ 16)
+    → (p .round ≤ 16) × (p .k ≤ 16)
 scanned n i p most t six =
     let tests = and-left (rangesOk n p && roundOk n i p && scanOk p) (lowerOk i p) t in
     let rounds = and-right (rangesOk n p) (roundOk n i p) (and-left (rangesOk n p && roundOk n i p) (scanOk p) tests) in
     let scans = and-right (rangesOk n p && roundOk n i p) (scanOk p) tests in
     let round = round-words n i p .says .0 rounds .0 (omega arith, omega arith) in
     let scan = scan-words p .says .0 scans .0 (omega arith, omega arith) in
-    (omega arith, omega arith, omega arith, omega arith)
+    (omega arith, omega arith)
 
 second : (c : tie.Joined1) → let a = c .before .before .args in c .if1 .if2 ≡ (rangesOk (a .n) (a .p) && roundOk (a .n) (a .i) (a .p))
 second c =

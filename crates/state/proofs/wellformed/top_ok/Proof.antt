@@ -13,7 +13,7 @@ returns-2 c = simp (eq-eqb _ _ (c .before .before .if1 .left), ne-eqb _ _ (c .if
 
 element-copy-out-result : tie.Need-element-copy-out-result
 element-copy-out-result c =
-    let (leastRound, mostRound, leastK, mostK) = c .before .before .before .before .before .pre (c .before .before .before .if1 .left) in
+    let (mostRound, mostK) = c .before .before .before .before .before .pre (c .before .before .before .if1 .left) in
     omega (arith, c .cell-of .ensures)
 
 returns-3 : tie.Need-returns-3
