@@ -1,4 +1,4 @@
-// The writer rule: of one row beside another, of one row beside all, and of all rows.
+// The writer rule over a whole sheet: within each round, and across rounds only where they do not ascend in memory.
 ghost use mathlib.Core.Path.{_≡_};
 ghost use mathlib.Core.Bool.{_&&_, _||_, cond};
 ghost use Prim.Native.Nat.{_+_, _-_, _*_, _≤_, max};
