@@ -22,7 +22,7 @@ slots n = flat (map (λ r. map (slot r) (from 1 r)) (from 2 (n - 1)))
 abbrev pub nextSlot : Slot → Slot
 nextSlot p = cond (ltb (p .party) (p .round)) (slot (p .round) (p .party + 1)) (slot (p .round + 1) 1)
 
--- the same, up to round 16, the last that a sheet can have; past it there is no next row
+-- the same up to round 16, the last that a sheet can have; past it there is no row, and the slot stays
 abbrev pub slotAfter : Slot → Slot
 slotAfter p = cond (leb (p .round) 16) (nextSlot p) p
 
