@@ -14,12 +14,12 @@ use Rattle.state.specs.Words.{PartyRule}
 use Rattle.state.specs.declared.kept.Party.{Party}
 use Rattle.state.specs.declared.kept.Session.{Session}
 use Rattle.state.proofs.Filled.{fresh-party}
-use Rattle.session.specs.Step.{step, stop, stoppedParty}
-use Rattle.session.specs.Reach.{Reached, here, by-step, by-stop}
-use Rattle.session.proofs.Landing.{party-set}
-use Rattle.session.proofs.Turns.{step-none, step-other, stop-other}
-use Rattle.session.proofs.Changes.{step-live}
-use Rattle.session.proofs.Reached.{reached-kept, reached-parties, reached-well-formed}
+use Rattle.steps.specs.Step.{step, stop, stoppedParty}
+use Rattle.steps.specs.Reach.{Reached, here, by-step, by-stop}
+use Rattle.steps.proofs.Landing.{party-set}
+use Rattle.steps.proofs.Turns.{step-none, step-other, stop-other}
+use Rattle.steps.proofs.Changes.{step-live}
+use Rattle.steps.proofs.Reached.{reached-kept, reached-parties, reached-well-formed}
 use Rattle.agreement.specs.Demand.{Opens, Demand}
 use Rattle.agreement.proofs.Theorems.{rules, of-reached}
 

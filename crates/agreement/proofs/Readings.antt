@@ -8,9 +8,9 @@ use Rattle.sheet.specs.Rows.{partiesOf}
 use Rattle.sheet.specs.Lists.{all}
 use Rattle.state.specs.Session.{partyOf}
 use Rattle.state.specs.declared.kept.Party.{Party}
-use Rattle.session.specs.Run.{byteOk, ran}
-use Rattle.session.specs.Trace.{stepsBefore}
-use Rattle.session.specs.Reach.{stepLimit}
+use Rattle.steps.specs.Run.{byteOk, ran}
+use Rattle.steps.specs.Trace.{stepsBefore}
+use Rattle.steps.specs.Reach.{stepLimit}
 use Rattle.agreement.specs.Demand.{Opens, Demand, OfSchedule}
 use Rattle.agreement.proofs.Theorems.{rules, reached, of-all}
 use Rattle.agreement.proofs.Parties.{has-begun}

@@ -18,9 +18,9 @@ use Rattle.state.specs.declared.kept.Party.{Party}
 use Rattle.state.specs.declared.kept.Session.{Session}
 use Rattle.state.proofs.Openings.{opens}
 use Rattle.record.specs.Record.{partyRecord, recordHead, recordBytes, recordLength}
-use Rattle.session.specs.Run.{byteOk, runAnswer, ran, runOut}
-use Rattle.session.specs.Reach.{Reached}
-use Rattle.session.proofs.RunAnswers.{run-done, out-written}
+use Rattle.steps.specs.Run.{byteOk, runAnswer, ran, runOut}
+use Rattle.steps.specs.Reach.{Reached}
+use Rattle.steps.proofs.RunAnswers.{run-done, out-written}
 use Rattle.agreement.specs.Demand.{Opens, placeIn, statusIn, stepsIn, decisionIn, OfRecord, OfRun}
 use Rattle.agreement.proofs.Theorems.{rules, reached}
 use Rattle.agreement.proofs.Parties.{Fits, fits, seated}

@@ -5,18 +5,18 @@ use mathlib.Core.Path.{sym, _∙_, subst}
 use lib.Dec.{T}
 use Rattle.sheet.specs.Rows.{partiesOf}
 use Rattle.agreement.specs.Demand.{Opens, Demand, OfReached, OfSchedule, OfCalls, OfAll, OfBuilt}
-use Rattle.session.specs.Reach.{here, Reached}
-use Rattle.session.specs.Run.{byteOk, ran}
+use Rattle.steps.specs.Reach.{here, Reached}
+use Rattle.steps.specs.Run.{byteOk, ran}
 use Rattle.sheet.specs.Lists.{all}
 use Rattle.sheet.specs.Words.{Rules6}
 use Rattle.builder.specs.Build.{builtSheet}
 use Rattle.state.proofs.Openings.{opens}
-use Rattle.session.proofs.Agreement.{agreement}
-use Rattle.session.proofs.Enough.{enough}
-use Rattle.session.proofs.Obeying.{obeyed-reached}
-use Rattle.session.proofs.RunCalls.{run-calls, run-told}
-use Rattle.session.proofs.StepLimits.{reached-limit, reached-decides}
-use Rattle.session.proofs.Tally.{steps-acts}
+use Rattle.steps.proofs.Agreement.{agreement}
+use Rattle.steps.proofs.Enough.{enough}
+use Rattle.steps.proofs.Obeying.{obeyed-reached}
+use Rattle.steps.proofs.RunCalls.{run-calls, run-told}
+use Rattle.steps.proofs.StepLimits.{reached-limit, reached-decides}
+use Rattle.steps.proofs.Tally.{steps-acts}
 use Rattle.sheet.proofs.Theorems.{answers}
 use Rattle.builder.proofs.Theorems.{built-says}
 

@@ -5,9 +5,9 @@ use mathlib.Core.List.{List, [], _∷_, _++_}
 use lib.ListN.{take, replicate}
 use Rattle.builder.specs.Build.{builtSheet}
 use Rattle.state.specs.Session.{partyOf}
-use Rattle.session.specs.Step.{won, nextK, lowersWin, partyAfter, marksAfter, publishedAfter, step, stop}
-use Rattle.session.specs.Run.{ran}
-use Rattle.session.specs.Reach.{stepLimit}
+use Rattle.steps.specs.Step.{won, nextK, lowersWin, partyAfter, marksAfter, publishedAfter, step, stop}
+use Rattle.steps.specs.Run.{ran}
+use Rattle.steps.specs.Reach.{stepLimit}
 
 -- on this schedule party i of n takes as many own steps as it may
 abbrev pub Reaches : ℕ → ℕ → ℕ → List ℕ → Type 0

@@ -15,10 +15,10 @@ use Rattle.state.specs.Session.{freshSession, partyOf}
 use Rattle.state.specs.Opening.{openAnswer, opened}
 use Rattle.state.specs.declared.kept.Session.{Session}
 use Rattle.record.specs.Record.{recordLength}
-use Rattle.session.specs.Calls.{Told}
-use Rattle.session.specs.Run.{byteOk, runAnswer, ran, runOut}
-use Rattle.session.specs.Trace.{called, calledTold, acts, stepsBefore}
-use Rattle.session.specs.Reach.{Agreed, stepLimit, Reached}
+use Rattle.steps.specs.Calls.{Told}
+use Rattle.steps.specs.Run.{byteOk, runAnswer, ran, runOut}
+use Rattle.steps.specs.Trace.{called, calledTold, acts, stepsBefore}
+use Rattle.steps.specs.Reach.{Agreed, stepLimit, Reached}
 
 -- a sheet that the check accepts, and a proposal for each of its parties
 pub record Opens (sheet proposals : List ℕ) : Type 0 where

@@ -8,7 +8,7 @@ use Rattle.sheet.specs.Rows.{Layout, slot}
 use Rattle.state.specs.Session.{layout, partyOf}
 use Rattle.state.specs.declared.kept.Party.{Party}
 use Rattle.state.specs.declared.kept.Session.{Session}
-use Rattle.session.specs.Step.{Place, announce, publish, write, readTop, readOwn, readPair, fetch, decide, done, placeOf, goes, nextK, lowersWin, counted, markAt, partyAfter, marksAfter, publishedAfter, isLive}
+use Rattle.steps.specs.Step.{Place, announce, publish, write, readTop, readOwn, readPair, fetch, decide, done, placeOf, goes, nextK, lowersWin, counted, markAt, partyAfter, marksAfter, publishedAfter, isLive}
 
 -- what an act makes of a party's own entries
 abbrev pub Rule : Type 0

@@ -2,7 +2,7 @@
 use Prim.Native.Nat.{ℕ}
 use mathlib.Core.Bool.{_&&_, cond}
 use Rattle.sheet.specs.Check.{within}
-use Rattle.session.specs.Reach.{stepLimit}
+use Rattle.steps.specs.Reach.{stepLimit}
 
 -- 0 where N is no number of parties, or i no party
 abbrev pub limitOf : ℕ → ℕ → ℕ

@@ -24,13 +24,13 @@ use denote.Triple.Clauses.{Clauses, closing}
 use Rattle.state.specs.declared.kept.Session.{Session}
 use Rattle.state.proofs.kept.Session as T
 use Rattle.state.proofs.kept.Session.Laws as T′
-use Rattle.session.specs.Calls.{Told, toldOf}
+use Rattle.steps.specs.Calls.{Told, toldOf}
 use Rattle.calls.specs.declared.values.After.{After}
-use Rattle.session.specs.declared.reply.Reply.{Reply}
+use Rattle.steps.specs.declared.reply.Reply.{Reply}
 use Rattle.calls.proofs.values.After as S
 use Rattle.calls.proofs.values.After.Laws as S′
-use Rattle.session.proofs.reply.Reply as R
-use Rattle.session.proofs.reply.Reply.Laws as R′
+use Rattle.steps.proofs.reply.Reply as R
+use Rattle.steps.proofs.reply.Reply.Laws as R′
 use Rattle.calls.proofs.values.step_value as value
 use Rattle.calls.proofs.step as lent
 

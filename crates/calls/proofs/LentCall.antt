@@ -48,8 +48,8 @@ use Rattle.calls.specs.declared.values.After.{After}
 use Rattle.calls.proofs.Lending.{Promise, on-value, Valued, on-lent, Lent, vals, val-reply}
 use Rattle.calls.proofs.values.After as S
 use Rattle.calls.proofs.values.After.Laws as S′
-use Rattle.session.proofs.reply.Reply as R
-use Rattle.session.proofs.reply.Reply.Laws as R′
+use Rattle.steps.proofs.reply.Reply as R
+use Rattle.steps.proofs.reply.Reply.Laws as R′
 use Rattle.calls.proofs.values.step_value as value
 use Rattle.calls.proofs.step as lent
 

@@ -45,12 +45,12 @@ use Rattle.state.specs.declared.kept.Session.{Session}
 use Rattle.state.proofs.kept.Session as T
 use Rattle.state.proofs.kept.Session.Laws as T′
 use Rattle.calls.specs.declared.values.After.{After}
-use Rattle.session.specs.declared.reply.Reply.{Reply}
+use Rattle.steps.specs.declared.reply.Reply.{Reply}
 use Rattle.calls.proofs.Lending.{Promise, on-value, Valued, on-lent, Lent, val, vals, val-reply, val-after, lay, lift}
 use Rattle.calls.proofs.values.After as S
 use Rattle.calls.proofs.values.After.Laws as S′
-use Rattle.session.proofs.reply.Reply as R
-use Rattle.session.proofs.reply.Reply.Laws as R′
+use Rattle.steps.proofs.reply.Reply as R
+use Rattle.steps.proofs.reply.Reply.Laws as R′
 use Rattle.calls.proofs.values.step_value as value
 use Rattle.calls.proofs.step as lent
 

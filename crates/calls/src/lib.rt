@@ -3,9 +3,9 @@ pub mod parts;
 pub mod values;
 
 ghost use mathlib.Core.Path.{_≡_};
-ghost use Rattle.session.specs.Calls.{toldOf, stepTold, stepped, stopTold, stopped, liveTold};
-use session::reply::Reply;
+ghost use Rattle.steps.specs.Calls.{toldOf, stepTold, stepped, stopTold, stopped, liveTold};
 use state::Session;
+use steps::reply::Reply;
 use values::After;
 
 // A step of a session that is lent: the place acted on, or 8 where nothing changes.

@@ -3,14 +3,14 @@ ghost use mathlib.Core.Path.{_≡_};
 ghost use Prim.Native.Nat.{_≤_};
 ghost use Rattle.sheet.specs.Lists.{from};
 ghost use Rattle.state.specs.Session.{ofParts, partyOf};
-ghost use Rattle.session.specs.Step.{isLive};
-ghost use Rattle.session.specs.Calls.{toldOf, stopTold, stopped, countOf, liveTold};
+ghost use Rattle.steps.specs.Step.{isLive};
+ghost use Rattle.steps.specs.Calls.{toldOf, stopTold, stopped, countOf, liveTold};
 use answers::Refusal;
 use session::parts;
-use session::reply::Reply;
-use session::reply::Turn;
 use state::Party;
 use state::wellformed;
+use steps::reply::Reply;
+use steps::reply::Turn;
 
 // A stop of party `party`, on the parts of a session: its status afterwards.
 pub fn stop_parts<'a>(

@@ -1,9 +1,9 @@
 // The calls on a session by value.
 ghost use mathlib.Core.Path.{_≡_};
-ghost use Rattle.session.specs.Calls.{toldOf, stepTold, stepped, stopTold, stopped, liveTold};
+ghost use Rattle.steps.specs.Calls.{toldOf, stepTold, stepped, stopTold, stopped, liveTold};
 use crate::parts;
-use session::reply::Reply;
 use state::Session;
+use steps::reply::Reply;
 
 // A session after a call, and its answer.
 pub struct After {

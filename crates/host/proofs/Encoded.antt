@@ -14,12 +14,12 @@ use Rattle.state.specs.Session.{layout, partyOf}
 use Rattle.state.specs.WellFormed.{wellFormed}
 use Rattle.state.specs.declared.kept.Session.{Session}
 use Rattle.state.proofs.FormWords.{well-formed-says}
-use Rattle.session.specs.Step as Rules
-use Rattle.session.specs.Calls.{Told, told, unlessRefused, unlessKept}
-use Rattle.session.specs.Run.{obeyed}
-use Rattle.session.specs.Reach.{Reached}
-use Rattle.session.proofs.Refusals.{told-0, told-10, past, answered}
-use Rattle.session.proofs.Reached.{reached-parties, reached-well-formed}
+use Rattle.steps.specs.Step as Rules
+use Rattle.steps.specs.Calls.{Told, told, unlessRefused, unlessKept}
+use Rattle.steps.specs.Run.{obeyed}
+use Rattle.steps.specs.Reach.{Reached}
+use Rattle.steps.proofs.Refusals.{told-0, told-10, past, answered}
+use Rattle.steps.proofs.Reached.{reached-parties, reached-well-formed}
 use Rattle.agreement.specs.Demand.{Opens}
 use Rattle.agreement.proofs.Theorems.{rules}
 use Rattle.host.specs.Word.{toldWord}

@@ -16,8 +16,8 @@ use Rattle.state.specs.declared.kept.Party.{Party}
 use Rattle.state.specs.declared.kept.Session.{Session}
 use Rattle.state.proofs.Filled.{replicate-at}
 use Rattle.state.proofs.FormWords.{passed-says, well-formed-says}
-use Rattle.session.specs.Reach.{Reached}
-use Rattle.session.proofs.Reached.{Lengths, reached-kept, reached-parties, reached-well-formed, reached-lengths}
+use Rattle.steps.specs.Reach.{Reached}
+use Rattle.steps.proofs.Reached.{Lengths, reached-kept, reached-parties, reached-well-formed, reached-lengths}
 use Rattle.agreement.specs.Demand.{Opens}
 use Rattle.agreement.proofs.Theorems.{rules}
 use Rattle.agreement.proofs.Parties.{Fits, fits}

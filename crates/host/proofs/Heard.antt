@@ -17,7 +17,7 @@ use Rattle.sheet.proofs.Folds.{either, held, failed}
 use Rattle.sheet.proofs.FirstBad.{first-on, first-here}
 use Rattle.state.specs.Opening.{openAnswer}
 use Rattle.record.specs.Record.{recordLength}
-use Rattle.session.specs.Run.{byteOk, runAnswer}
+use Rattle.steps.specs.Run.{byteOk, runAnswer}
 use Rattle.host.specs.Word.{answerWord}
 use Rattle.host.specs.Calls.{badAt}
 use Rattle.host.proofs.Opened.{open-most}

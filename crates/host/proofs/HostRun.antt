@@ -11,7 +11,7 @@ use Rattle.sheet.specs.Rows.{partiesOf}
 use Rattle.sheet.specs.Lists.{firstBad}
 use Rattle.answers.specs.Answers.{Answer}
 use Rattle.state.specs.Opening.{openAnswer}
-use Rattle.session.specs.Run.{byteOk, runAnswer, runOut}
+use Rattle.steps.specs.Run.{byteOk, runAnswer, runOut}
 use Rattle.image.specs.Image.{proposalsOf}
 use Rattle.host.specs.Calls.{unlessUnopened, proposalsFor}
 use Rattle.host.proofs.Opened.{Opens, Refuses, lent}

@@ -23,8 +23,8 @@ use Rattle.state.proofs.FormWords.{accepted-says}
 use Rattle.state.proofs.Openings.{opens-when}
 use Rattle.record.specs.Record.{recordLength, recordBytes}
 use Rattle.record.proofs.Records.{length-record}
-use Rattle.session.specs.Calls.{Told, told}
-use Rattle.session.specs.Run.{byteOk, runAnswer, ran, runOut}
+use Rattle.steps.specs.Calls.{Told, told}
+use Rattle.steps.specs.Run.{byteOk, runAnswer, ran, runOut}
 use Rattle.state.proofs.Copies.{length-range}
 use Rattle.image.specs.Image.{sessionBytes, sessionOf}
 use Rattle.host.specs.Calls.{proposalsFor, hostOpen, openBytes, onSession, bytesAfter}

@@ -13,12 +13,12 @@ use Rattle.state.specs.WellFormed.{wellFormed}
 use Rattle.state.specs.declared.kept.Party.{Party}
 use Rattle.state.specs.declared.kept.Session.{Session}
 use Rattle.state.proofs.Filled.{filled-length, fresh-length}
-use Rattle.session.specs.Step.{Place, announce, publish, write, readTop, readOwn, readPair, fetch, decide, done, placeOf, counted, partyAfter}
-use Rattle.session.specs.Step.{marksAfter, publishedAfter, acted, step, stoppedParty, stop}
-use Rattle.session.specs.Calls.{unlessKept}
-use Rattle.session.specs.Run.{entry, obeyed}
-use Rattle.session.proofs.Stamps.{length-stamped}
-use Rattle.session.proofs.Changes.{step-either}
+use Rattle.steps.specs.Step.{Place, announce, publish, write, readTop, readOwn, readPair, fetch, decide, done, placeOf, counted, partyAfter}
+use Rattle.steps.specs.Step.{marksAfter, publishedAfter, acted, step, stoppedParty, stop}
+use Rattle.steps.specs.Calls.{unlessKept}
+use Rattle.steps.specs.Run.{entry, obeyed}
+use Rattle.steps.proofs.Stamps.{length-stamped}
+use Rattle.steps.proofs.Changes.{step-either}
 use Rattle.image.proofs.Inverse.{Full}
 
 -- ---- one act

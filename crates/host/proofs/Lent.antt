@@ -10,7 +10,7 @@ use lib.ListN.{length, take}
 use Rattle.state.specs.Session.{ofParts}
 use Rattle.state.specs.declared.kept.Party.{Party}
 use Rattle.state.specs.declared.kept.Session.{Session}
-use Rattle.session.specs.Calls.{Told, told}
+use Rattle.steps.specs.Calls.{Told, told}
 use Rattle.image.specs.Image.{partiesBytes, sessionBytes, sessionOf, Below}
 use Rattle.image.proofs.Inverse.{encode-acted, encode-parties}
 use Rattle.host.specs.Word.{toldWord}

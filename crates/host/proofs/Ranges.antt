@@ -29,10 +29,10 @@ use Rattle.state.specs.declared.kept.Session.{Session}
 use Rattle.state.proofs.Joins.{within-words}
 use Rattle.state.proofs.FormWords.{well-formed-says}
 use Rattle.record.specs.Record.{recordLength}
-use Rattle.session.specs.Step.{isLive, stoppedParty, stop, placeActed}
-use Rattle.session.specs.Calls.{Told, unlessRefused, stepTold, stopTold, countOf, liveNumber, liveTold}
-use Rattle.session.specs.Run.{byteOk, runAnswer}
-use Rattle.session.proofs.Refusals.{parties-few}
+use Rattle.steps.specs.Step.{isLive, stoppedParty, stop, placeActed}
+use Rattle.steps.specs.Calls.{Told, unlessRefused, stepTold, stopTold, countOf, liveNumber, liveTold}
+use Rattle.steps.specs.Run.{byteOk, runAnswer}
+use Rattle.steps.proofs.Refusals.{parties-few}
 use Rattle.host.specs.Word.{word}
 use Rattle.image.specs.Image.{sessionOf}
 use Rattle.host.specs.Calls.{unlessUnopened, proposalsFor, onSession, badAt, hostOpen}

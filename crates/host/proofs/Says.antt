@@ -3,8 +3,8 @@ use Prim.Native.Nat.{ℕ, _^_}
 use mathlib.Core.List.{List}
 use native.Mathlib.Omega.{arith}
 use lib.ListN.{length}
-use Rattle.session.specs.Step.{step, stop}
-use Rattle.session.specs.Calls.{stepTold, stepped, stopTold, stopped, liveTold}
+use Rattle.steps.specs.Step.{step, stop}
+use Rattle.steps.specs.Calls.{stepTold, stepped, stopTold, stopped, liveTold}
 use Rattle.host.specs.Calls.{lastIndex, heard, hostStep, hostStop, hostLive, hostRun}
 use Rattle.host.specs.Says.{RefusalsKeep, RefusedValue, FieldsRead}
 use Rattle.host.proofs.Lengths.{full-step, full-stop, full-unless}

@@ -13,10 +13,10 @@ use Rattle.sheet.proofs.Folds.{or-left, or-right, and-both, held, failed, same-
 use Rattle.sheet.proofs.TestWords.{eq-words}
 use Rattle.state.specs.declared.kept.Session.{Session}
 use Rattle.state.proofs.Joins.{within-words}
-use Rattle.session.specs.Step as Rules
-use Rattle.session.specs.Run.{byteOk, entry, obeyed}
-use Rattle.session.specs.Trace as Trace
-use Rattle.session.specs.Reach.{Reached, by-step, by-stop}
+use Rattle.steps.specs.Step as Rules
+use Rattle.steps.specs.Run.{byteOk, entry, obeyed}
+use Rattle.steps.specs.Trace as Trace
+use Rattle.steps.specs.Reach.{Reached, by-step, by-stop}
 use Rattle.host.specs.Demand.{Call, step, stop, asked, stepsBefore}
 
 -- ---- the schedule of some calls

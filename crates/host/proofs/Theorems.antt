@@ -11,8 +11,8 @@ use Rattle.answers.specs.Answers.{done}
 use Rattle.builder.specs.Build.{builtSheet}
 use Rattle.state.specs.Session.{partyOf}
 use Rattle.state.specs.declared.kept.Session.{Session}
-use Rattle.session.specs.Run.{byteOk, ran}
-use Rattle.session.specs.Reach.{stepLimit, Reached, here}
+use Rattle.steps.specs.Run.{byteOk, ran}
+use Rattle.steps.specs.Reach.{stepLimit, Reached, here}
 use Rattle.agreement.specs.Demand.{Opens}
 use Rattle.agreement.proofs.Theorems.{rules, reached}
 use Rattle.agreement.proofs.Readings.{read}

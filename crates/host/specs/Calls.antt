@@ -9,8 +9,8 @@ use Rattle.answers.specs.Answers.{Answer, answer, done}
 use Rattle.sheet.specs.Check.{checkAnswer}
 use Rattle.state.specs.Session.{freshSession}
 use Rattle.state.specs.declared.kept.Session.{Session}
-use Rattle.session.specs.Calls.{Told, told, stepTold, stepped, stopTold, stopped, liveTold}
-use Rattle.session.specs.Run.{runAnswer, runOut}
+use Rattle.steps.specs.Calls.{Told, told, stepTold, stepped, stopTold, stopped, liveTold}
+use Rattle.steps.specs.Run.{runAnswer, runOut}
 use Rattle.image.specs.Image.{proposalsOf, sessionBytes, sessionOf}
 
 -- ---- open and run: sheet, 7

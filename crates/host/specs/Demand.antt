@@ -11,7 +11,7 @@ use Rattle.answers.specs.Answers.{done}
 use Rattle.sheet.specs.Check.{within}
 use Rattle.builder.specs.Build.{builtSheet}
 use Rattle.builder.specs.Given.{Given}
-use Rattle.session.specs.Reach.{stepLimit}
+use Rattle.steps.specs.Reach.{stepLimit}
 use Rattle.host.specs.Word.{toldWord}
 use Rattle.image.specs.Image.{Below}
 use Rattle.host.specs.Calls.{hostOpen, openBytes, hostStep, stepBytes, hostStop, stopBytes}

@@ -9,7 +9,7 @@ use Rattle.answers.specs.Answers.{Answer}
 use Rattle.sheet.specs.Check.{checkAnswer}
 use Rattle.builder.specs.Build.{buildAnswer, outAfter}
 use Rattle.record.specs.Record.{recordLength}
-use Rattle.session.specs.Calls.{Told}
+use Rattle.steps.specs.Calls.{Told}
 use Rattle.host.specs.Word.{answerWord, toldWord}
 use Rattle.host.specs.Calls.{hostOpen, openBytes, hostStep, stepBytes, hostStop, stopBytes, hostLive, hostRun, runBytes}
 

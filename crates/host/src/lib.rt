@@ -6,16 +6,16 @@ ghost use Prim.Native.Nat.{_<_};
 ghost use lib.ListN.{length};
 ghost use Rattle.sheet.specs.Check.{checkAnswer};
 ghost use Rattle.builder.specs.Build.{buildAnswer, outAfter};
-ghost use Rattle.session.specs.Run.{runAnswer};
+ghost use Rattle.steps.specs.Run.{runAnswer};
 ghost use Rattle.host.specs.Word.{answerWord, toldWord};
 ghost use Rattle.host.specs.Calls.{hostOpen, openBytes, hostStep, stepBytes, hostStop, stopBytes, hostLive, lastIndex, heard, hostRun, runBytes};
 use answers::Refusal;
 use answers::Verdict;
 use image::proposals;
 use session::parts;
-use session::reply::Reply;
 use session::runs;
 use state::opening;
+use steps::reply::Reply;
 
 // Whether a sheet is accepted.
 #[no_mangle]

@@ -1,11 +1,11 @@
 // An answer in one word.
 ghost use mathlib.Core.Path.{_≡_};
 ghost use Rattle.answers.specs.Answers.{numberOf, positionOf, answerOf};
-ghost use Rattle.session.specs.Calls.{toldOf};
+ghost use Rattle.steps.specs.Calls.{toldOf};
 ghost use Rattle.host.specs.Word.{word, answerWord, toldWord};
 use answers::Refusal;
 use answers::Verdict;
-use session::reply::Reply;
+use steps::reply::Reply;
 
 // A refusal: its number, the value 0, its position.
 pub(crate) fn refused(r: Refusal) -> u64

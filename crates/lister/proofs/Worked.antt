@@ -4,8 +4,8 @@ use mathlib.Core.Path.{_≡_, refl}
 use mathlib.Core.List.{List, [], _∷_, _++_}
 use borrow.Author.Tests.{ne-eqb}
 use Rattle.sheet.specs.Lists.{firstBad}
-use Rattle.session.specs.Step.{won, nextK, lowersWin, partyAfter, marksAfter, publishedAfter, step, stop}
-use Rattle.session.specs.Run.{byteOk}
+use Rattle.steps.specs.Step.{won, nextK, lowersWin, partyAfter, marksAfter, publishedAfter, step, stop}
+use Rattle.steps.specs.Run.{byteOk}
 use Rattle.lister.specs.Text.{decimal, countsLine, partyLine, recordLine, listing, refusedText}
 use Rattle.lister.specs.Listed.{listed}
 

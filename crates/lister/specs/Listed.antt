@@ -7,7 +7,7 @@ use lib.Dec.{eqb}
 use Rattle.answers.specs.Answers.{Answer}
 use Rattle.builder.specs.Build.{builtSheet}
 use Rattle.record.specs.Record.{recordLength}
-use Rattle.session.specs.Run.{runAnswer, runOut}
+use Rattle.steps.specs.Run.{runAnswer, runOut}
 use Rattle.lister.specs.Text.{listing, refusedText}
 
 abbrev pub proposals : List ℕ

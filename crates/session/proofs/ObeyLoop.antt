@@ -15,13 +15,13 @@ use Rattle.state.specs.Session.{freshParty, noParty, filled, freshSession, part
 use Rattle.state.specs.Words.{PartyRule}
 use Rattle.state.specs.declared.kept.Party.{Party}
 use Rattle.state.specs.declared.kept.Session.{Session}
-use Rattle.session.specs.Step.{placeOf, counted, partyAfter, marksAfter, publishedAfter, stoppedParty}
-use Rattle.session.specs.Run.{byteOk, entry, ran}
-use Rattle.session.specs.Ready.{Ready}
-use Rattle.session.proofs.Reached.{Reached, here, reached-layout, reached-parties, reached-proposals, reached-well-formed}
-use Rattle.session.proofs.Turns.{step-none}
-use Rattle.session.proofs.Schedules.{all-taken, all-at, obeyed-more}
-use Rattle.session.proofs.Obeying.{Good, good, obeyed-reached, step-live, stop-over, Shows, shows-acted, shows-stopped}
+use Rattle.steps.specs.Step.{placeOf, counted, partyAfter, marksAfter, publishedAfter, stoppedParty}
+use Rattle.steps.specs.Run.{byteOk, entry, ran}
+use Rattle.steps.specs.Ready.{Ready}
+use Rattle.steps.proofs.Reached.{Reached, here, reached-layout, reached-parties, reached-proposals, reached-well-formed}
+use Rattle.steps.proofs.Turns.{step-none}
+use Rattle.steps.proofs.Schedules.{all-taken, all-at, obeyed-more}
+use Rattle.steps.proofs.Obeying.{Good, good, obeyed-reached, step-live, stop-over, Shows, shows-acted, shows-stopped}
 
 pub record Going (sheet proposals schedule : List ℕ) (n : ℕ) (kept : List ℕ) (j : ℕ) (parties : List Party) (marks published : List ℕ) : Type 0 where
   pub rules : Rules6 sheet

@@ -7,15 +7,15 @@ ghost use lib.Dec.{eqb};
 ghost use Rattle.sheet.specs.Check.{within};
 ghost use Rattle.sheet.specs.Rows.{layoutOf};
 ghost use Rattle.state.specs.Session.{ofParts};
-ghost use Rattle.session.specs.Step.{stoppedParty, counted, placeOf, partyAfter, marksAfter, publishedAfter};
-ghost use Rattle.session.specs.Ready.{Ready};
-ghost use Rattle.session.specs.Calls.{toldOf, unlessRefused, stepTold, stepped};
+ghost use Rattle.steps.specs.Step.{stoppedParty, counted, placeOf, partyAfter, marksAfter, publishedAfter};
+ghost use Rattle.steps.specs.Ready.{Ready};
+ghost use Rattle.steps.specs.Calls.{toldOf, unlessRefused, stepTold, stepped};
 use crate::act;
-use crate::reply::Reply;
-use crate::reply::Turn;
 use answers::Refusal;
 use state::Party;
 use state::wellformed;
+use steps::reply::Reply;
+use steps::reply::Turn;
 
 fn is_party(n: u8, party: u32) -> bool
     ensures { λ r. ⌜ r ≡ within 1 n party ⌝ }

@@ -7,7 +7,7 @@ ghost use Rattle.sheet.specs.Rows.{partiesOf};
 ghost use Rattle.sheet.specs.Lists.{all, firstBad};
 ghost use Rattle.sheet.specs.Words.{Rules6};
 ghost use Rattle.answers.specs.Answers.{answerOf};
-ghost use Rattle.session.specs.Run.{byteOk, ran, runAnswer, runOut};
+ghost use Rattle.steps.specs.Run.{byteOk, ran, runAnswer, runOut};
 use crate::act;
 use crate::parts;
 use answers::Refusal;

@@ -38,11 +38,11 @@ use denote.Triple.Clauses.{ensured, lasts}
 use Rattle.state.specs.declared.kept.Session.{Session}
 use Rattle.state.proofs.kept.Session as T
 use Rattle.state.proofs.kept.Session.Laws as T′
-use Rattle.session.specs.Calls.{toldOf, liveTold}
-use Rattle.session.specs.declared.reply.Reply.{Reply}
+use Rattle.steps.specs.Calls.{toldOf, liveTold}
+use Rattle.steps.specs.declared.reply.Reply.{Reply}
 use Rattle.calls.proofs.Lending.{vals}
-use Rattle.session.proofs.reply.Reply as R
-use Rattle.session.proofs.reply.Reply.Laws as R′
+use Rattle.steps.proofs.reply.Reply as R
+use Rattle.steps.proofs.reply.Reply.Laws as R′
 use Rattle.calls.proofs.values.live_value as value
 use Rattle.calls.proofs.values.live_value.Symbol as value-def
 use Rattle.calls.proofs.values.live_value.Symbol.{name as #value}

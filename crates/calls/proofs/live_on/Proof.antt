@@ -39,11 +39,11 @@ use denote.Triple.Clauses.{ensured, lasts}
 use Rattle.state.specs.declared.kept.Session.{Session}
 use Rattle.state.proofs.kept.Session as T
 use Rattle.state.proofs.kept.Session.Laws as T′
-use Rattle.session.specs.Calls.{toldOf, liveTold}
-use Rattle.session.specs.declared.reply.Reply.{Reply}
+use Rattle.steps.specs.Calls.{toldOf, liveTold}
+use Rattle.steps.specs.declared.reply.Reply.{Reply}
 use Rattle.calls.proofs.Lending.{val, vals, lay, lift}
-use Rattle.session.proofs.reply.Reply as R
-use Rattle.session.proofs.reply.Reply.Laws as R′
+use Rattle.steps.proofs.reply.Reply as R
+use Rattle.steps.proofs.reply.Reply.Laws as R′
 use Rattle.calls.proofs.live as lent
 use Rattle.calls.proofs.live.Symbol as lent-def
 use Rattle.calls.proofs.live.Symbol.{name as #lent}

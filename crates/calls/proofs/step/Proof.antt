@@ -1,5 +1,5 @@
 -- The walk of a call on a lent session, at `step_value` and what it promises.
-use Rattle.session.specs.Calls.{stepTold, stepped}
+use Rattle.steps.specs.Calls.{stepTold, stepped}
 use Rattle.calls.proofs.Lending.{promised}
 use Rattle.calls.proofs.LentCall.{lent-spec}
 use Rattle.calls.proofs.values.step_value.Symbol as value

@@ -1,5 +1,5 @@
 -- The walk of a call on a session by value, at `step` and what it promises.
-use Rattle.session.specs.Calls.{stepTold, stepped}
+use Rattle.steps.specs.Calls.{stepTold, stepped}
 use Rattle.calls.proofs.Lending.{promised}
 use Rattle.calls.proofs.LocalCall.{local-spec}
 use Rattle.calls.proofs.step.Symbol as lent

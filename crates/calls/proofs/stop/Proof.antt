@@ -1,5 +1,5 @@
 -- The walk of a call on a lent session, at `stop_value` and what it promises.
-use Rattle.session.specs.Calls.{stopTold, stopped}
+use Rattle.steps.specs.Calls.{stopTold, stopped}
 use Rattle.calls.proofs.Lending.{promised}
 use Rattle.calls.proofs.LentCall.{lent-spec}
 use Rattle.calls.proofs.values.stop_value.Symbol as value

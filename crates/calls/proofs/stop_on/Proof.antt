@@ -1,5 +1,5 @@
 -- The walk of a call on a session by value, at `stop` and what it promises.
-use Rattle.session.specs.Calls.{stopTold, stopped}
+use Rattle.steps.specs.Calls.{stopTold, stopped}
 use Rattle.calls.proofs.Lending.{promised}
 use Rattle.calls.proofs.LocalCall.{local-spec}
 use Rattle.calls.proofs.stop.Symbol as lent

@@ -1,7 +1,7 @@
 -- The parts are read out of the bytes, and the call on them is as it promises.
 use mathlib.Core.Path.{sym, ap, _∙_}
 use borrow.Author.Needs.{needs}
-use Rattle.session.specs.Calls.{liveTold}
+use Rattle.steps.specs.Calls.{liveTold}
 use Rattle.host.specs.Word.{toldWord}
 use Rattle.host.proofs.Lent.{other-length, this-length, whole, parts-read}
 use Rattle.host.proofs.sepalsail_live.Statement.{statement}

@@ -8,7 +8,7 @@ use borrow.Author.Needs.{needs}
 use lib.Dec.{eqb}
 use lib.ListN.{length, take}
 use Rattle.answers.specs.Answers.{Answer}
-use Rattle.session.specs.Run.{runAnswer, runOut}
+use Rattle.steps.specs.Run.{runAnswer, runOut}
 use Rattle.host.specs.Word.{answerWord}
 use Rattle.image.specs.Image.{proposalsOf}
 use Rattle.host.specs.Calls.{unlessUnopened, proposalsFor, lastIndex, heard}

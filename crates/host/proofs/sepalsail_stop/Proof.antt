@@ -6,8 +6,8 @@ use native.Mathlib.Omega.{arith}
 use borrow.Author.Needs.{needs}
 use Rattle.state.specs.declared.kept.Session.{Session}
 use Rattle.answers.proofs.Verdicts.{refuses}
-use Rattle.session.specs.Calls.{Told, toldOf, stopTold, stopped}
-use Rattle.session.specs.declared.reply.Reply.{Reply}
+use Rattle.steps.specs.Calls.{Told, toldOf, stopTold, stopped}
+use Rattle.steps.specs.declared.reply.Reply.{Reply}
 use Rattle.image.specs.Image.{Below}
 use Rattle.host.specs.Word.{toldWord}
 use Rattle.host.proofs.Lent.{refused-9, answered, refused, Read, whole, parts-read, parties-written}

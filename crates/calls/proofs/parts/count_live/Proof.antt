@@ -12,8 +12,8 @@ use native.Mathlib.Omega.{arith}
 use Rattle.sheet.specs.Lists.{from}
 use Rattle.state.specs.Session.{partyOf}
 use Rattle.state.specs.declared.kept.Party.{Party}
-use Rattle.session.specs.Step.{isLive}
-use Rattle.session.specs.Calls.{countOf}
+use Rattle.steps.specs.Step.{isLive}
+use Rattle.steps.specs.Calls.{countOf}
 use Rattle.calls.proofs.parts.count_live.Statement.{statement}
 use Rattle.calls.proofs.parts.count_live.Tie as tie
 

@@ -10,9 +10,9 @@ use Rattle.state.specs.Session.{ofParts, partyOf}
 use Rattle.state.specs.WellFormed.{wellFormed}
 use Rattle.state.specs.declared.kept.Session.{Session}
 use Rattle.state.proofs.Tested.{passed, stopped}
-use Rattle.session.specs.Step.{isLive}
-use Rattle.session.specs.Calls.{told, countOf, liveNumber, liveTold}
-use Rattle.session.proofs.Refusals.{parties-byte, parties-few}
+use Rattle.steps.specs.Step.{isLive}
+use Rattle.steps.specs.Calls.{told, countOf, liveNumber, liveTold}
+use Rattle.steps.proofs.Refusals.{parties-byte, parties-few}
 use Rattle.calls.proofs.parts.live_parts.Statement.{statement}
 use Rattle.calls.proofs.parts.live_parts.Tie as tie
 

@@ -9,9 +9,9 @@ use Rattle.state.specs.Session.{ofParts, noParty, partyOf}
 use Rattle.state.specs.declared.kept.Party.{Party}
 use Rattle.state.specs.declared.kept.Session.{Session}
 use Rattle.answers.proofs.Verdicts.{refuses}
-use Rattle.session.specs.Step.{stoppedParty, stop}
-use Rattle.session.specs.Calls.{told, toldOf}
-use Rattle.session.proofs.Refusals.{Past, past, refused, answered}
+use Rattle.steps.specs.Step.{stoppedParty, stop}
+use Rattle.steps.specs.Calls.{told, toldOf}
+use Rattle.steps.proofs.Refusals.{Past, past, refused, answered}
 use Rattle.calls.proofs.parts.stop_parts.Statement.{statement}
 use Rattle.calls.proofs.parts.stop_parts.Tie as tie
 

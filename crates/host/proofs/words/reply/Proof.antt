@@ -3,9 +3,9 @@ use Prim.Native.Nat.{ℕ, _*_}
 use mathlib.Core.Path.{_≡_, sym, ap, _∙_}
 use native.Mathlib.Omega.{arith}
 use borrow.Author.Needs.{needs}
-use Rattle.session.specs.Calls.{toldOf}
-use Rattle.session.specs.declared.reply.Reply.{Reply}
-use Rattle.session.specs.declared.reply.Reply.the-variants.{Gave}
+use Rattle.steps.specs.Calls.{toldOf}
+use Rattle.steps.specs.declared.reply.Reply.{Reply}
+use Rattle.steps.specs.declared.reply.Reply.the-variants.{Gave}
 use Rattle.host.specs.Word.{toldWord}
 use Rattle.host.proofs.words.reply.Statement.{statement}
 use Rattle.host.proofs.words.reply.Tie as tie

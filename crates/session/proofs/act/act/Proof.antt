@@ -7,8 +7,8 @@ use native.Mathlib.Nat.{le-antisymm}
 use native.Mathlib.Omega.{arith}
 use borrow.Author.Needs.{needs}
 use Rattle.state.specs.declared.kept.Party.{Party}
-use Rattle.session.specs.Step.{placeOf, partyAfter, marksAfter, publishedAfter}
-use Rattle.session.specs.Ready.{Ready, ReadyAt}
+use Rattle.steps.specs.Step.{placeOf, partyAfter, marksAfter, publishedAfter}
+use Rattle.steps.specs.Ready.{Ready, ReadyAt}
 use Rattle.session.proofs.act.act.Statement.{statement}
 use Rattle.session.proofs.act.act.Tie as tie
 

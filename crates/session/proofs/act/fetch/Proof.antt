@@ -3,7 +3,7 @@ use Prim.Native.Nat.{ℕ}
 use mathlib.Core.Path.{ap, _∙_}
 use borrow.Author.Needs.{needs}
 use lib.ListN.{getD}
-use Rattle.session.specs.Step.{won, counted}
+use Rattle.steps.specs.Step.{won, counted}
 use Rattle.session.proofs.act.fetch.Statement.{statement}
 use Rattle.session.proofs.act.fetch.Tie as tie
 

@@ -1,7 +1,7 @@
 -- The code's test is the one that `lowersWin` asks.
 use borrow.Author.Needs.{needs}
 use borrow.Author.Tests.{lt-ltb, le-ltb}
-use Rattle.session.specs.Step.{lowersWin}
+use Rattle.steps.specs.Step.{lowersWin}
 use Rattle.session.proofs.act.lowers_win.Statement.{statement}
 use Rattle.session.proofs.act.lowers_win.Tie as tie
 

@@ -12,8 +12,8 @@ use Rattle.sheet.specs.Sets.{bit, inSet}
 use Rattle.sheet.proofs.Bits.{digit, digit-bit, bit-digit, bit-under}
 use Rattle.sheet.proofs.Folds.{and-left, and-right, and-both, fails, same-test}
 use Rattle.sheet.proofs.WriteSets.{at-says, bit-at}
-use Rattle.session.specs.Step.{stamped}
-use Rattle.session.proofs.Stamps.{stamped-none, stamped-same, stamped-more}
+use Rattle.steps.specs.Step.{stamped}
+use Rattle.steps.proofs.Stamps.{stamped-none, stamped-same, stamped-more}
 use Rattle.session.proofs.act.mark_set.Statement.{statement}
 use Rattle.session.proofs.act.mark_set.Tie as tie
 

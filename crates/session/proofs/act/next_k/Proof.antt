@@ -1,7 +1,7 @@
 -- The code's test is the one that `nextK` asks.
 use borrow.Author.Needs.{needs}
 use borrow.Author.Tests.{lt-ltb, le-ltb}
-use Rattle.session.specs.Step.{nextK}
+use Rattle.steps.specs.Step.{nextK}
 use Rattle.session.proofs.act.next_k.Statement.{statement}
 use Rattle.session.proofs.act.next_k.Tie as tie
 

@@ -5,8 +5,8 @@ use borrow.Author.Tests.{eq-eqb, ne-eqb}
 use lib.Dec.{eqb}
 use Rattle.sheet.specs.Rows.{layoutOf, slot}
 use Rattle.sheet.specs.declared.rows.Row.{Row}
-use Rattle.session.specs.Step.{markAt}
-use Rattle.session.proofs.RowOf.{row-read, pair-in-memory}
+use Rattle.steps.specs.Step.{markAt}
+use Rattle.steps.proofs.RowOf.{row-read, pair-in-memory}
 use Rattle.session.proofs.act.read_pair.Statement.{statement}
 use Rattle.session.proofs.act.read_pair.Tie as tie
 

@@ -1,7 +1,7 @@
 -- The code's test is the one that `won` asks.
 use borrow.Author.Needs.{needs}
 use borrow.Author.Tests.{lt-ltb, le-ltb}
-use Rattle.session.specs.Step.{won}
+use Rattle.steps.specs.Step.{won}
 use Rattle.session.proofs.act.win.Statement.{statement}
 use Rattle.session.proofs.act.win.Tie as tie
 

@@ -8,8 +8,8 @@ use lib.Dec.{T, eqb}
 use Rattle.sheet.specs.Rows.{layoutOf, slot}
 use Rattle.sheet.specs.Rules.{writes}
 use Rattle.sheet.specs.declared.rows.Row.{Row}
-use Rattle.session.specs.Step.{stamped, written}
-use Rattle.session.proofs.RowOf.{row-read, set-in-memory}
+use Rattle.steps.specs.Step.{stamped, written}
+use Rattle.steps.proofs.RowOf.{row-read, set-in-memory}
 use Rattle.session.proofs.act.write.Statement.{statement}
 use Rattle.session.proofs.act.write.Tie as tie
 

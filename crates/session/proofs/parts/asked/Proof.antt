@@ -7,7 +7,7 @@ use Rattle.state.specs.Session.{ofParts, layout}
 use Rattle.state.specs.WellFormed.{wellFormed}
 use Rattle.state.specs.declared.kept.Session.{Session}
 use Rattle.state.proofs.Tested.{passed, stopped}
-use Rattle.session.proofs.Refusals.{is-formed, byte-party, told-9, told-10, told-0}
+use Rattle.steps.proofs.Refusals.{is-formed, byte-party, told-9, told-10, told-0}
 use Rattle.session.proofs.parts.asked.Statement.{statement}
 use Rattle.session.proofs.parts.asked.Tie as tie
 

@@ -15,10 +15,10 @@ use Rattle.state.specs.declared.kept.Session.{Session}
 use Rattle.state.proofs.Carried.{front-fits, front-carried}
 use Rattle.state.proofs.FormWords.{well-formed-says}
 use Rattle.answers.proofs.Verdicts.{refuses}
-use Rattle.session.specs.Step.{Place, isLive, placeOf, counted, partyAfter, marksAfter, publishedAfter, acted, step, placeActed}
-use Rattle.session.specs.Ready.{Ready}
-use Rattle.session.specs.Calls.{told, toldOf}
-use Rattle.session.proofs.Refusals.{Past, past, refused, answered}
+use Rattle.steps.specs.Step.{Place, isLive, placeOf, counted, partyAfter, marksAfter, publishedAfter, acted, step, placeActed}
+use Rattle.steps.specs.Ready.{Ready}
+use Rattle.steps.specs.Calls.{told, toldOf}
+use Rattle.steps.proofs.Refusals.{Past, past, refused, answered}
 use Rattle.session.proofs.parts.step_parts.Statement.{statement}
 use Rattle.session.proofs.parts.step_parts.Tie as tie
 

@@ -11,7 +11,7 @@ use Rattle.sheet.proofs.Folds.{lt-or-le, same-test}
 use Rattle.sheet.proofs.TestWords.{Tells}
 use Rattle.state.proofs.Tested.{and-then, and-else}
 use Rattle.state.proofs.Joins.{within-words, either-words}
-use Rattle.session.specs.Run.{byteOk}
+use Rattle.steps.specs.Run.{byteOk}
 use Rattle.session.proofs.runs.byte_ok.Statement.{statement}
 use Rattle.session.proofs.runs.byte_ok.Tie as tie
 

@@ -5,8 +5,8 @@ use borrow.Author.Needs.{needs}
 use borrow.Author.Tests.{not-true, not-false}
 use lib.ListN.{length}
 use Rattle.sheet.proofs.Folds.{held, failed}
-use Rattle.session.specs.Run.{byteOk}
-use Rattle.session.proofs.Schedules.{Passed, passed-on, passed-here, passed-end}
+use Rattle.steps.specs.Run.{byteOk}
+use Rattle.steps.proofs.Schedules.{Passed, passed-on, passed-here, passed-end}
 use Rattle.session.proofs.runs.first_bad_byte.Statement.{statement}
 use Rattle.session.proofs.runs.first_bad_byte.Tie as tie
 

@@ -21,8 +21,8 @@ use Rattle.state.specs.declared.kept.Party.{Party}
 use Rattle.state.proofs.Openings.{opens-says}
 use Rattle.record.specs.Record.{recordBytes, recordLength}
 use Rattle.record.proofs.Records.{recorded}
-use Rattle.session.specs.Run.{byteOk}
-use Rattle.session.proofs.RunAnswers.{run-unopened, run-unscheduled, run-unfit, run-done, run-refused, out-written}
+use Rattle.steps.specs.Run.{byteOk}
+use Rattle.steps.proofs.RunAnswers.{run-unopened, run-unscheduled, run-unfit, run-done, run-refused, out-written}
 use Rattle.session.proofs.runs.run.Statement.{statement}
 use Rattle.session.proofs.runs.run.Tie as tie
 

@@ -6,8 +6,8 @@ use borrow.Author.Needs.{needs}
 use borrow.Author.Tests.{not-true, not-false}
 use lib.ListN.{length}
 use Rattle.sheet.proofs.Folds.{held, failed}
-use Rattle.session.specs.Run.{byteOk}
-use Rattle.session.proofs.Schedules.{So, so-on, so-not, so-end}
+use Rattle.steps.specs.Run.{byteOk}
+use Rattle.steps.proofs.Schedules.{So, so-on, so-not, so-end}
 use Rattle.session.proofs.runs.schedule_ok.Statement.{statement}
 use Rattle.session.proofs.runs.schedule_ok.Tie as tie
 

@@ -1,0 +1,40 @@
+-- Sessions that steps and stops reach from an opening, and what demand 3 says of them.
+use Prim.Native.Nat.{ℕ, _+_, _-_, _*_, _≤_}
+use mathlib.Core.Path.{_≡_}
+use mathlib.Core.List.{List}
+use mathlib.Core.Bool.{cond}
+use lib.ListN.{getD}
+use lib.Dec.{eqb}
+use Rattle.sheet.specs.Rows.{partiesOf}
+use Rattle.state.specs.Session.{freshSession, partyOf}
+use Rattle.state.specs.declared.kept.Session.{Session}
+use Rattle.steps.specs.Step.{step, stop}
+
+-- any sequence of steps and stops of parties 1 to n leads from one session to another
+pub data Leads (n : ℕ) (s : Session) : Session → Type 0 where
+  here : Leads n s s
+  by-step : {t : Session} (i : ℕ) → 1 ≤ i → i ≤ n → Leads n s t → Leads n s (step t i)
+  by-stop : {t : Session} (i : ℕ) → 1 ≤ i → i ≤ n → Leads n s t → Leads n s (stop t i)
+
+-- reached from the fresh session with a sheet and proposals
+abbrev pub Reached : List ℕ → List ℕ → Session → Type 0
+Reached sheet proposals s = Leads (partiesOf sheet) (freshSession sheet proposals (partiesOf sheet)) s
+
+-- all parties that have decided have decided the proposal of one same party h, which has announced
+pub record Agreed (n : ℕ) (proposals : List ℕ) (s : Session) (h : ℕ) : Type 0 where
+  pub least : 1 ≤ h
+  pub most : h ≤ n
+  pub candidate : (i : ℕ) → 1 ≤ i → i ≤ n → partyOf (s .parties) i .status ≡ 2 → partyOf (s .parties) i .candidate ≡ h
+  pub decision :
+      (i : ℕ) → 1 ≤ i → i ≤ n → partyOf (s .parties) i .status ≡ 2 → partyOf (s .parties) i .decision ≡ getD proposals (h - 1) 0
+  pub announced : (i : ℕ) → 1 ≤ i → i ≤ n → partyOf (s .parties) i .status ≡ 2 → partyOf (s .parties) h .place ≡ 0 → ⊥
+
+-- the most own steps of party i of n: (n + 1)² − 2 for party 1, (n + 1)² − i² + 1 for the others
+abbrev pub stepLimit : ℕ → ℕ → ℕ
+stepLimit n i = cond (eqb i 1) ((n + 1) * (n + 1) - 2) ((n + 1) * (n + 1) - i * i + 1)
+
+-- how many steps party j was given on the way
+unfoldable pub given : {n : ℕ} {s t : Session} → ℕ → Leads n s t → ℕ
+given j here = 0
+given j (by-step i least most R) = given j R + cond (eqb j i) 1 0
+given j (by-stop i least most R) = given j R
