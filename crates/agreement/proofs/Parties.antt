@@ -7,7 +7,7 @@ use native.Mathlib.Decide.{ℕ-discrete}
 use native.Mathlib.Omega.{arith}
 use lib.ListN.{length, getD}
 use Rattle.sheet.specs.Rows.{partiesOf}
-use Rattle.sheet.specs.Words.{Rules6}
+use Rattle.rules.specs.Words.{Rules6}
 use Rattle.sheet.proofs.Folds.{lt-or-le}
 use Rattle.state.specs.Session.{layout, partyOf}
 use Rattle.state.specs.Words.{PartyRule}

@@ -8,7 +8,7 @@ use Rattle.agreement.specs.Demand.{Opens, Demand, OfReached, OfSchedule,
 use Rattle.steps.specs.Reach.{here, Reached}
 use Rattle.steps.specs.Run.{byteOk, ran}
 use Rattle.sheet.specs.Lists.{all}
-use Rattle.sheet.specs.Words.{Rules6}
+use Rattle.rules.specs.Words.{Rules6}
 use Rattle.builder.specs.Build.{builtSheet}
 use Rattle.state.proofs.Openings.{opens}
 use Rattle.steps.proofs.Agreement.{agreement}
@@ -17,7 +17,7 @@ use Rattle.steps.proofs.Obeying.{obeyed-reached}
 use Rattle.steps.proofs.RunCalls.{run-calls, run-told}
 use Rattle.steps.proofs.StepLimits.{reached-limit, reached-decides}
 use Rattle.steps.proofs.Tally.{steps-acts}
-use Rattle.sheet.proofs.Theorems.{answers}
+use Rattle.rules.proofs.Theorems.{answers}
 use Rattle.builder.proofs.Theorems.{built-says}
 
 pub rules : {sheet proposals : List ℕ} → Opens sheet proposals → Rules6 sheet

@@ -8,7 +8,7 @@ use Rattle.sheet.specs.Rows.{partiesOf}
 use Rattle.sheet.specs.Lists.{all}
 use Rattle.sheet.specs.Bytes.{num}
 use Rattle.answers.specs.Answers.{done}
-use Rattle.sheet.specs.Check.{checkAnswer}
+use Rattle.rules.specs.Check.{checkAnswer}
 use Rattle.builder.specs.Build.{builtSheet}
 use Rattle.builder.specs.Given.{Given}
 use Rattle.state.specs.Session.{freshSession, partyOf}

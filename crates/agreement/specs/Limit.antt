@@ -1,7 +1,7 @@
 -- The step limit of a party as a number for integrators.
 use Prim.Native.Nat.{ℕ}
 use mathlib.Core.Bool.{_&&_, cond}
-use Rattle.sheet.specs.Check.{within}
+use Rattle.sheet.specs.Lists.{within}
 use Rattle.steps.specs.Reach.{stepLimit}
 
 -- 0 where N is no number of parties, or i no party

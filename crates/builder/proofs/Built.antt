@@ -6,13 +6,14 @@ use native.Mathlib.Nat.{eq-or-lt-of-le}
 use native.Mathlib.Omega.{arith}
 use lib.Dec.{T}
 use Rattle.sheet.specs.Rows.{Layout}
-use Rattle.sheet.specs.Words.{IsSlot, RowRule, WriterRule, HeaderRule, Every}
+use Rattle.sheet.specs.Words.{IsSlot}
+use Rattle.rules.specs.Words.{RowRule, WriterRule, HeaderRule, Every}
 use Rattle.sheet.specs.declared.rows.Row.{Row}
 use Rattle.sheet.specs.declared.rows.Slot.{Slot}
 use Rattle.builder.specs.Build.{given, builtUnits, built}
 use Rattle.builder.specs.Given.{Given}
 use Rattle.sheet.proofs.Folds.{lt-or-le}
-use Rattle.sheet.proofs.RuleWords.{mask-64}
+use Rattle.rules.proofs.RuleWords.{mask-64}
 use Rattle.builder.proofs.Givens.{given-ranges, word-room}
 use Rattle.builder.proofs.Kind1.{rows1, writers1, units1}
 use Rattle.builder.proofs.Kind2.{rows2, writers2, units2}

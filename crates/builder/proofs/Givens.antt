@@ -4,7 +4,8 @@ use mathlib.Core.Path.{_≡_}
 use mathlib.Core.Bool.{_&&_}
 use borrow.Author.Tests.{ne-eqb}
 use lib.Dec.{T, leb, leb→le}
-use Rattle.sheet.specs.Check.{within, numbersOk}
+use Rattle.sheet.specs.Lists.{within}
+use Rattle.rules.specs.Check.{numbersOk}
 use Rattle.builder.specs.Given.{Given}
 use Rattle.sheet.proofs.Folds.{and-left, and-right}
 

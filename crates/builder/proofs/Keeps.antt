@@ -4,7 +4,8 @@ use mathlib.Core.Path.{_≡_, refl}
 use native.Mathlib.Nat.{le-refl}
 use native.Mathlib.Omega.{arith}
 use Rattle.sheet.specs.Rows.{Layout, layoutOf, slot}
-use Rattle.sheet.specs.Words.{IsSlot, RowRule, WriterRule, HeaderRule, Every, Rules6}
+use Rattle.sheet.specs.Words.{IsSlot}
+use Rattle.rules.specs.Words.{RowRule, WriterRule, HeaderRule, Every, Rules6}
 use Rattle.sheet.specs.declared.rows.Slot.{Slot}
 use Rattle.builder.specs.Build.{built, builtSheet}
 use Rattle.builder.specs.Given.{Given}

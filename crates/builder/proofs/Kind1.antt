@@ -7,13 +7,14 @@ use native.Mathlib.Omega.{arith}
 use lib.Dec.{T, leb, eqb, leb→le, eqb→eq}
 use Rattle.sheet.specs.Lists.{all}
 use Rattle.sheet.specs.Rows.{slots}
-use Rattle.sheet.specs.Rules.{rowRule, writerRule}
-use Rattle.sheet.specs.Check.{headerOk}
-use Rattle.sheet.specs.Words.{SizeVarying, RowRule, WriterRule, HeaderRule, Every}
+use Rattle.rules.specs.Rules.{rowRule, writerRule}
+use Rattle.rules.specs.Check.{headerOk}
+use Rattle.sheet.specs.Words.{SizeVarying}
+use Rattle.rules.specs.Words.{RowRule, WriterRule, HeaderRule, Every}
 use Rattle.builder.specs.Build.{builtRow, builtUnits, built, given}
 use Rattle.sheet.proofs.Folds.{and-left, and-right, or-cases}
 use Rattle.sheet.proofs.Slots.{all-slots}
-use Rattle.sheet.proofs.RuleWords.{header-says, row-says, writer-says}
+use Rattle.rules.proofs.RuleWords.{header-says, row-says, writer-says}
 
 -- the sizes there are
 sizes : (P : ℕ → Type 0) (bound n : ℕ) → T (given 1 bound n) → P 1 → (3 ≤ bound → P 2) → (5 ≤ bound → P 3) → P n

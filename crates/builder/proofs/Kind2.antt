@@ -11,7 +11,8 @@ use borrow.Author.Tests.{ne-eqb, eqb-true, eqb-false}
 use lib.Arith.{digits-div, digits-lt, lt-of-le-ne}
 use Rattle.sheet.specs.Lists.{from}
 use Rattle.sheet.specs.Rows.{slot, isTop}
-use Rattle.sheet.specs.Words.{In, Inconsecutive, IsSlot, Other, Lower, Top, RowRule, WriterRule}
+use Rattle.sheet.specs.Words.{In, Inconsecutive, IsSlot, Other, Lower, Top}
+use Rattle.rules.specs.Words.{RowRule, WriterRule}
 use Rattle.sheet.specs.declared.rows.Row.{Row}
 use Rattle.sheet.specs.declared.rows.Slot.{Slot}
 use Rattle.builder.specs.Build.{writing, wordOf, ownUnit, pairUnit, row2, builtUnits, built}

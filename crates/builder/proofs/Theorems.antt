@@ -5,7 +5,7 @@ use mathlib.Core.List.{[], _∷_}
 use Rattle.builder.specs.Build.{builtSheet}
 use Rattle.builder.specs.Given.{Given}
 use Rattle.builder.specs.Says.{BuiltSays}
-use Rattle.sheet.proofs.Says.{check-says}
+use Rattle.rules.proofs.Says.{check-says}
 use Rattle.builder.proofs.ReadBack.{length-sheet, reads-fields, reads-units, reads-row}
 use Rattle.builder.proofs.Keeps.{built-keeps}
 

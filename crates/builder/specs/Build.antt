@@ -8,7 +8,7 @@ use Rattle.sheet.specs.Lists.{from, flat}
 use Rattle.sheet.specs.Bytes.{bytesOf}
 use Rattle.sheet.specs.Rows.{Layout, slots, sheetLength, rowNumber, noRow, isTop}
 use Rattle.answers.specs.Answers.{Answer, answer, done}
-use Rattle.sheet.specs.Check.{numbersOk}
+use Rattle.rules.specs.Check.{numbersOk}
 use Rattle.sheet.specs.declared.rows.Row.{Row}
 use Rattle.sheet.specs.declared.rows.Slot.{Slot}
 

@@ -1,7 +1,7 @@
 -- The numbers for which there is a built sheet.
 use Prim.Native.Nat.{ℕ}
 use lib.Dec.{T}
-use Rattle.sheet.specs.Check.{numbersOk}
+use Rattle.rules.specs.Check.{numbersOk}
 use Rattle.builder.specs.Build.{given}
 
 pub record Given (kind bound n : ℕ) : Type 0 where

@@ -4,7 +4,7 @@ use mathlib.Core.Path.{_≡_}
 use lib.ListN.{length}
 use Rattle.sheet.specs.Rows.{layoutOf, sheetLength}
 use Rattle.answers.specs.Answers.{done}
-use Rattle.sheet.specs.Check.{checkAnswer}
+use Rattle.rules.specs.Check.{checkAnswer}
 use Rattle.sheet.specs.Words.{IsSlot}
 use Rattle.sheet.specs.declared.rows.Slot.{Slot}
 use Rattle.builder.specs.Build.{built, builtRow, builtSheet}

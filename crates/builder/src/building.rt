@@ -5,7 +5,7 @@ ghost use Prim.Native.Nat.{_+_, _*_, _^_, _≤_, _<_};
 ghost use lib.ListN.{length, take, drop};
 ghost use lib.Dec.{T};
 ghost use Rattle.sheet.specs.Rows.{sheetLength, rowNumber};
-ghost use Rattle.sheet.specs.Check.{numbersOk};
+ghost use Rattle.rules.specs.Check.{numbersOk};
 ghost use Rattle.sheet.specs.Bytes.{bytesOf};
 ghost use Rattle.sheet.specs.Words.{IsSlot};
 ghost use Rattle.builder.specs.Build.{given, rowBytes, headerBytes, builtUnits, row2, rows1, builtRow, builtSheet};

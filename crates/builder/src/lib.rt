@@ -14,7 +14,7 @@ pub fn build(kind: u32, bound: u32, parties: u32, out: &mut [u8]) -> Verdict
     ensures { λ r. ⌜ answerOf r ≡ buildAnswer kind bound parties (length (now (out .entry))) ⌝ }
     ensures { λ _. ⌜ now (out .exit) ≡ outAfter kind bound parties (now (out .entry)) ⌝ }
 {
-    if !sheet::numbers_ok(kind, bound, parties) {
+    if !rules::numbers_ok(kind, bound, parties) {
         return Verdict::Refused(Refusal::Header);
     }
     if !building::is_given(kind, bound, parties) {

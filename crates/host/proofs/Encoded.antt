@@ -8,7 +8,7 @@ use borrow.Author.Tests.{eq-eqb}
 use lib.Dec.{T}
 use lib.ListN.{length, getD}
 use Rattle.sheet.specs.Rows.{partiesOf}
-use Rattle.sheet.specs.Check.{within}
+use Rattle.sheet.specs.Lists.{within}
 use Rattle.sheet.proofs.Folds.{holds}
 use Rattle.state.specs.Session.{layout, partyOf}
 use Rattle.state.specs.WellFormed.{wellFormed}

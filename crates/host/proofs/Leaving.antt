@@ -12,7 +12,7 @@ use Rattle.sheet.specs.Bytes.{num}
 use Rattle.sheet.specs.Lists.{firstBad}
 use Rattle.sheet.specs.Rows.{sheetLength, partiesOf}
 use Rattle.answers.specs.Answers.{Answer, answer, done}
-use Rattle.sheet.specs.Check.{numbersOk, checkAnswer}
+use Rattle.rules.specs.Check.{numbersOk, checkAnswer}
 use Rattle.builder.specs.Build.{given, builtSheet, buildAnswer, outAfter}
 use Rattle.builder.proofs.Theorems.{built-says}
 use Rattle.state.specs.Session.{freshSession}

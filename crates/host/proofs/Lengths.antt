@@ -5,9 +5,8 @@ use mathlib.Core.List.{List, [], _∷_}
 use mathlib.Core.Bool.{Bool, true, false, _&&_, cond}
 use lib.Dec.{ltb, eqb}
 use lib.ListN.{length, length-set}
-use Rattle.sheet.specs.Check.{within}
-use Rattle.sheet.specs.Rows.{slot}
-use Rattle.sheet.specs.Rules.{writes}
+use Rattle.sheet.specs.Lists.{within}
+use Rattle.sheet.specs.Rows.{slot, writes}
 use Rattle.state.specs.Session.{freshSession, layout, partyOf, cell}
 use Rattle.state.specs.WellFormed.{wellFormed}
 use Rattle.state.specs.declared.kept.Party.{Party}

@@ -12,9 +12,9 @@ use lib.ListN.{length, getD}
 use Rattle.sheet.specs.Rows.{layoutOf, partiesOf}
 use Rattle.sheet.specs.Bytes.{num}
 use Rattle.answers.specs.Answers.{Answer, done}
-use Rattle.sheet.specs.Check.{headerOk, lengthOk, checkAnswer}
+use Rattle.rules.specs.Check.{headerOk, lengthOk, checkAnswer}
 use Rattle.sheet.proofs.Folds.{held, failed}
-use Rattle.sheet.proofs.Says.{rows, writers}
+use Rattle.rules.proofs.Says.{rows, writers}
 use Rattle.state.specs.Opening.{openAnswer}
 use Rattle.state.proofs.FormWords.{accepted-says}
 use Rattle.state.proofs.Copies.{length-range}

@@ -12,14 +12,14 @@ use Rattle.sheet.specs.Lists.{flat}
 use Rattle.sheet.specs.Bytes.{num, bytesOf}
 use Rattle.sheet.specs.Rows.{slot, slots, sheetLength, partiesOf}
 use Rattle.answers.specs.Answers.{Answer, answer, done}
-use Rattle.sheet.specs.Check.{checkAnswer}
+use Rattle.rules.specs.Check.{checkAnswer}
 use Rattle.sheet.specs.declared.rows.Row.{Row}
 use Rattle.sheet.specs.declared.rows.Slot.{Slot}
 use Rattle.builder.specs.Build.{rowBytes, headerBytes, builtRow, builtUnits, builtSheet}
 use Rattle.builder.specs.Given.{Given}
 use Rattle.sheet.proofs.Folds.{lt-or-le}
 use Rattle.sheet.proofs.Numbers.{num-below}
-use Rattle.sheet.proofs.Says.{past-6}
+use Rattle.rules.proofs.Says.{past-6}
 use Rattle.builder.proofs.Givens.{given-ranges}
 use Rattle.builder.proofs.Theorems.{built-says}
 use Rattle.state.specs.Session.{freshSession}

@@ -10,17 +10,17 @@ use borrow.Author.Tests.{not-false}
 use lib.Dec.{ltb, eqb, T}
 use lib.ListN.{length, getD, take, set}
 use lib.Seq.{length-take-le}
-use Rattle.sheet.specs.Lists.{from, firstBad}
+use Rattle.sheet.specs.Lists.{from, firstBad, within}
 use Rattle.sheet.specs.Rows.{layoutOf, slot, slots, sheetLength, partiesOf}
 use Rattle.answers.specs.Answers.{Answer, answer, done}
-use Rattle.sheet.specs.Check.{within, numbersOk, headerOk, lengthOk, checkAnswer}
+use Rattle.rules.specs.Check.{numbersOk, headerOk, lengthOk, checkAnswer}
 use Rattle.sheet.specs.declared.rows.Slot.{Slot}
 use Rattle.builder.specs.Build.{given, buildAnswer}
 use Rattle.sheet.proofs.Folds.{held, lt-or-le}
 use Rattle.sheet.proofs.FirstBad.{first-found}
 use Rattle.sheet.proofs.Slots.{length-slots, count-most}
-use Rattle.sheet.proofs.RuleWords.{header-says}
-use Rattle.sheet.proofs.Says.{rows, writers}
+use Rattle.rules.proofs.RuleWords.{header-says}
+use Rattle.rules.proofs.Says.{rows, writers}
 use Rattle.state.specs.Session.{layout, noParty, partyOf}
 use Rattle.state.specs.Opening.{openAnswer}
 use Rattle.state.specs.WellFormed.{wellFormed}

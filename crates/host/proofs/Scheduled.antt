@@ -7,8 +7,7 @@ use native.Mathlib.Omega.{arith}
 use borrow.Author.Tests.{lt-ltb, le-ltb, ne-eqb}
 use lib.Dec.{T, eqb}
 use Rattle.sheet.specs.Rows.{partiesOf}
-use Rattle.sheet.specs.Lists.{all}
-use Rattle.sheet.specs.Check.{within}
+use Rattle.sheet.specs.Lists.{all, within}
 use Rattle.sheet.proofs.Folds.{or-left, or-right, and-both, held, failed, same-test}
 use Rattle.sheet.proofs.TestWords.{eq-words}
 use Rattle.state.specs.declared.kept.Session.{Session}

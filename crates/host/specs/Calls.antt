@@ -6,7 +6,7 @@ use lib.ListN.{length, take, drop}
 use lib.Dec.{ltb, eqb}
 use Rattle.sheet.specs.Rows.{partiesOf}
 use Rattle.answers.specs.Answers.{Answer, answer, done}
-use Rattle.sheet.specs.Check.{checkAnswer}
+use Rattle.rules.specs.Check.{checkAnswer}
 use Rattle.state.specs.Session.{freshSession}
 use Rattle.state.specs.declared.kept.Session.{Session}
 use Rattle.steps.specs.Calls.{Told, told, stepTold, stepped, stopTold, stopped, liveTold}

@@ -8,7 +8,7 @@ use lib.Dec.{eqb}
 use Rattle.sheet.specs.Rows.{partiesOf}
 use Rattle.sheet.specs.Bytes.{num}
 use Rattle.answers.specs.Answers.{done}
-use Rattle.sheet.specs.Check.{within}
+use Rattle.sheet.specs.Lists.{within}
 use Rattle.builder.specs.Build.{builtSheet}
 use Rattle.builder.specs.Given.{Given}
 use Rattle.steps.specs.Reach.{stepLimit}

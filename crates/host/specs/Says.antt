@@ -6,7 +6,7 @@ use mathlib.Core.List.{List}
 use lib.ListN.{length, drop}
 use Rattle.sheet.specs.Rows.{sheetLength, partiesOf}
 use Rattle.answers.specs.Answers.{Answer}
-use Rattle.sheet.specs.Check.{checkAnswer}
+use Rattle.rules.specs.Check.{checkAnswer}
 use Rattle.builder.specs.Build.{buildAnswer, outAfter}
 use Rattle.record.specs.Record.{recordLength}
 use Rattle.steps.specs.Calls.{Told}

@@ -4,7 +4,7 @@ mod words;
 ghost use mathlib.Core.Path.{_≡_};
 ghost use Prim.Native.Nat.{_<_};
 ghost use lib.ListN.{length};
-ghost use Rattle.sheet.specs.Check.{checkAnswer};
+ghost use Rattle.rules.specs.Check.{checkAnswer};
 ghost use Rattle.builder.specs.Build.{buildAnswer, outAfter};
 ghost use Rattle.steps.specs.Run.{runAnswer};
 ghost use Rattle.host.specs.Word.{answerWord, toldWord};

@@ -8,14 +8,15 @@ use native.Mathlib.Omega.{arith}
 use lib.Dec.{T}
 use Rattle.sheet.specs.Lists.{firstBad}
 use Rattle.sheet.specs.Rows.{Layout, layoutOf, slot, slots}
-use Rattle.sheet.specs.Rules.{writerRule}
+use Rattle.rules.specs.Rules.{writerRule}
 use Rattle.rules.specs.Quick.{aloneInRound, quickRule, ascending}
-use Rattle.sheet.specs.Words.{In, IsSlot, Other, Lower, RowRule, WriterRule, HeaderRule, Every, Rules5}
+use Rattle.sheet.specs.Words.{In, IsSlot, Other, Lower}
+use Rattle.rules.specs.Words.{RowRule, WriterRule, HeaderRule, Every, Rules5}
 use Rattle.sheet.specs.declared.rows.Slot.{Slot}
 use Rattle.sheet.proofs.Folds.{either, same-test, lt-or-le}
 use Rattle.sheet.proofs.FirstBad.{first-slots-same}
 use Rattle.sheet.proofs.TestWords.{Tells, tells, decide, eq-words, and-words, or-words, cond-words, not-words, range-words}
-use Rattle.sheet.proofs.RuleWords.{Clear, in-words, mask-64, set-words, writer-says}
+use Rattle.rules.proofs.RuleWords.{Clear, in-words, mask-64, set-words, writer-says}
 use Rattle.rules.proofs.Ascending.{ascending-order}
 
 -- row p beside the row of the same round's party j

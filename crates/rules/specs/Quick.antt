@@ -7,8 +7,7 @@ use lib.Dec.{leb, eqb}
 use Rattle.sheet.specs.Lists.{from, all}
 use Rattle.sheet.specs.Sets.{apart}
 use Rattle.sheet.specs.Length.{bitLength}
-use Rattle.sheet.specs.Rows.{Layout, slot, slots}
-use Rattle.sheet.specs.Rules.{writes}
+use Rattle.sheet.specs.Rows.{Layout, slot, slots, writes}
 use Rattle.sheet.specs.declared.rows.Row.{Row}
 use Rattle.sheet.specs.declared.rows.Slot.{Slot}
 use Rattle.rules.specs.declared.writers.Edge.{Edge}

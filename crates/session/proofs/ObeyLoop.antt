@@ -9,7 +9,7 @@ use lib.ListN.{length, getD, take, set, replicate}
 use lib.Seq.{take-all}
 use Rattle.sheet.specs.Lists.{from, all}
 use Rattle.sheet.specs.Rows.{layoutOf, partiesOf}
-use Rattle.sheet.specs.Words.{Rules6}
+use Rattle.rules.specs.Words.{Rules6}
 use Rattle.sheet.proofs.Folds.{lt-or-le}
 use Rattle.state.specs.Session.{freshParty, noParty, filled, freshSession, partyOf}
 use Rattle.state.specs.Words.{PartyRule}

@@ -4,7 +4,7 @@ ghost use mathlib.Core.Bool.{cond};
 ghost use Prim.Native.Nat.{_≤_};
 ghost use lib.ListN.{length, take};
 ghost use lib.Dec.{eqb};
-ghost use Rattle.sheet.specs.Check.{within};
+ghost use Rattle.sheet.specs.Lists.{within};
 ghost use Rattle.sheet.specs.Rows.{layoutOf};
 ghost use Rattle.state.specs.Session.{ofParts};
 ghost use Rattle.steps.specs.Step.{stoppedParty, counted, placeOf, partyAfter, marksAfter, publishedAfter};

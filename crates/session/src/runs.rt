@@ -5,7 +5,7 @@ ghost use lib.ListN.{length};
 ghost use lib.Dec.{T};
 ghost use Rattle.sheet.specs.Rows.{partiesOf};
 ghost use Rattle.sheet.specs.Lists.{all, firstBad};
-ghost use Rattle.sheet.specs.Words.{Rules6};
+ghost use Rattle.rules.specs.Words.{Rules6};
 ghost use Rattle.answers.specs.Answers.{answerOf};
 ghost use Rattle.steps.specs.Run.{byteOk, ran, runAnswer, runOut};
 use crate::act;

@@ -9,8 +9,4 @@ pub mod Slots
 pub mod FirstBad
 pub mod WriteSets
 pub mod TestWords
-pub mod RuleWords
-pub mod Says
 pub mod Reader
-pub mod RowLoop
-pub mod Theorems

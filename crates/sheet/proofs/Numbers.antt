@@ -11,7 +11,7 @@ use lib.Arith.{mod-mul}
 use lib.ListN.{length, getD, take, drop, length-drop}
 use lib.Seq.{drop-cons, drop-drop, take-add, length-take-le}
 use Rattle.sheet.specs.Lists.{from}
-use Rattle.sheet.specs.Bytes.{bigFrom, num, bytesOf}
+use Rattle.sheet.specs.Bytes.{bigFrom, big, num, bytesOf}
 use Rattle.sheet.specs.Rows.{rowAt, taken}
 
 -- ---- what is read
@@ -28,6 +28,10 @@ taken-from s place j (suc n) h =
 pub num-read : (s : List ℕ) (place n : ℕ) → place + n ≤ length s → num s place n ≡ bigFrom 0 (map (λ k. getD s (place + k) 0) (from 0 n))
 num-read s place n h =
     ap (λ (i : ℕ). bigFrom 0 (take n (drop i s))) (sym (add-zero place)) ∙ ap (bigFrom 0) (taken-from s place 0 n (omega arith))
+
+-- the number of two bytes that were read one by one
+pub num-two : (s : List ℕ) (place : ℕ) → place + 2 ≤ length s → big (getD s place 0 ∷ getD s (place + 1) 0 ∷ []) ≡ num s place 2
+num-two s place h = rw (num-read s place 2 h, add-zero)
 
 -- bytes after those of acc
 big-after : (acc : ℕ) (xs : List ℕ) → bigFrom acc xs ≡ acc * 256 ^ length xs + bigFrom 0 xs

@@ -3,7 +3,7 @@ use Prim.Native.Nat.{ℕ, _+_, _-_, _%_, _^_, _<_, _≤_, zero-le}
 use mathlib.Core.Path.{_≡_, sym, ap, _∙_, subst}
 use mathlib.Core.Logic.{_⊎_, ⊎-elim, _↔_}
 use mathlib.Core.Bool.{Bool, not, _&&_, _||_}
-use native.Mathlib.Nat.{lt-of-not-le, not-le-of-lt, lt-of-lt-of-le, lt-of-le-of-lt, eq-zero-or-pos}
+use native.Mathlib.Nat.{lt-of-not-le, not-le-of-lt, lt-of-lt-of-le, lt-of-le-of-lt, eq-zero-or-pos, pos-of-ne-zero}
 use native.Mathlib.Omega.{arith}
 use borrow.Author.Tests.{eq-eqb, ne-eqb}
 use lib.Dec.{T, leb, ltb, eqb, leb→le, le→leb, ltb→lt, lt→ltb, eqb→eq, T-not, not-T}
@@ -12,7 +12,7 @@ use lib.Count.{leadingZeros, leading-top, leading-of-zero, leading-length, leadi
 use Rattle.sheet.specs.Lists.{from, all}
 use Rattle.sheet.specs.Sets.{bit, inSet, unitsIn, sizeVarying, inconsecutive, legal, below, apart}
 use Rattle.sheet.specs.Length.{bitLength}
-use Rattle.sheet.specs.Rules.{writes}
+use Rattle.sheet.specs.Rows.{writes}
 use Rattle.sheet.specs.Words.{In, Legal}
 use Rattle.sheet.specs.declared.rows.Row.{Row}
 use Rattle.sheet.proofs.Bits.{bit-under, under-bits}
@@ -111,6 +111,11 @@ length-least m k h l = ⊎-elim none some (eq-zero-or-pos m)
         let over : j < k = lt-of-not-le (λ le. not-le-of-lt (lt-of-le-of-lt (r .2) l) (pow-mono le)) in
         omega (arith, r .1)
 
+-- a mask that is not empty takes a bit
+pub length-some : (m : ℕ) → m < 2 ^ 64 → (m ≡ 0 → ⊥) → 0 < bitLength m
+length-some m h some =
+    pos-of-ne-zero (λ e. let low : m < 2 ^ 0 = subst (λ (x : ℕ). m < 2 ^ x) e (length-holds m h) in some (omega arith))
+
 pub length-ones : (b : ℕ) → b ≤ 64 → bitLength (2 ^ b - 1) ≡ b
 length-ones b h =
     let some = pow-pos b in
@@ -148,12 +153,17 @@ run-says bound start mask = (
     test b = eqb mask (2 ^ b - 1) && eqb (start % b) 0
 
 -- and b is the mask's length
-pub run-length : (bound start mask b : ℕ) → bound ≤ 64 → b ≡ bitLength mask → T (sizeVarying bound start mask) ↔ Run bound start mask b
+-- as many ones as fit 64 bits
+ones-few : (b mask : ℕ) → mask < 2 ^ 64 → mask ≡ 2 ^ b - 1 → b ≤ 64
+ones-few b mask h e =
+    let few : b < 65 = lt-of-not-le (λ l. let more : 2 ^ 65 ≤ 2 ^ b = pow-mono l in omega arith) in
+    omega arith
+
+pub run-length : (bound start mask b : ℕ) → mask < 2 ^ 64 → b ≡ bitLength mask → T (sizeVarying bound start mask) ↔ Run bound start mask b
 run-length bound start mask b h e = (
   λ t.
       let r = run-says bound start mask .0 t in
-      let most = r .1 .1 in
-      let same : r .0 ≡ b = sym (e ∙ ap bitLength (r .1 .2) ∙ length-ones (r .0) (omega arith)) in
+      let same : r .0 ≡ b = sym (e ∙ ap bitLength (r .1 .2) ∙ length-ones (r .0) (ones-few (r .0) mask h (r .1 .2))) in
       subst (Run bound start mask) same (r .1),
   λ p. run-says bound start mask .1 (b, p),
 )

@@ -8,9 +8,13 @@ abbrev pub bigFrom : ℕ → List ℕ → ℕ
 bigFrom acc [] = acc
 bigFrom acc (x ∷ xs) = bigFrom (acc * 256 + x) xs
 
+-- the number of some bytes
+abbrev pub big : List ℕ → ℕ
+big xs = bigFrom 0 xs
+
 -- the number that the n bytes of s from a place on say
 abbrev pub num : List ℕ → ℕ → ℕ → ℕ
-num s at n = bigFrom 0 (take n (drop at s))
+num s at n = big (take n (drop at s))
 
 -- x in n bytes
 abbrev pub bytesOf : ℕ → ℕ → List ℕ

@@ -4,7 +4,4 @@ pub mod Bytes
 pub mod Sets
 pub mod Length
 pub mod Rows
-pub mod Rules
-pub mod Check
 pub mod Words
-pub mod Says

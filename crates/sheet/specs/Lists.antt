@@ -2,6 +2,7 @@
 use Prim.Native.Nat.{ℕ, zero, suc}
 use mathlib.Core.List.{List, [], _∷_, _++_}
 use mathlib.Core.Bool.{Bool, true, false, _&&_, _||_, cond}
+use lib.Dec.{leb}
 
 -- n numbers, from a on
 abbrev pub from : ℕ → ℕ → List ℕ
@@ -31,3 +32,7 @@ flat (x ∷ xs) = x ++ flat xs
 abbrev pub firstBad : {A : Type 0} → (A → Bool) → ℕ → List A → ℕ
 firstBad f k [] = 0
 firstBad f k (x ∷ xs) = let r = firstBad f (suc k) xs in cond (f x) r k
+
+-- x is from lo to hi
+abbrev pub within : ℕ → ℕ → ℕ → Bool
+within lo hi x = leb lo x && leb x hi

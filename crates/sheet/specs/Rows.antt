@@ -6,6 +6,7 @@ use lib.ListN.{length, getD, drop}
 use lib.Dec.{leb, ltb, eqb}
 use Rattle.sheet.specs.Lists.{from, flat}
 use Rattle.sheet.specs.Bytes.{num}
+use Rattle.sheet.specs.Sets.{inSet}
 use Rattle.sheet.specs.declared.rows.Row.{Row}
 use Rattle.sheet.specs.declared.rows.Slot.{Slot}
 use Rattle.sheet.specs.declared.rows.Taken.{Taken}
@@ -45,6 +46,10 @@ rowFrom s = record { start = num s 0 2; mask = num s 2 8; own = num s 10 2; pair
 -- row k of a sheet, counted from 0
 abbrev pub rowAt : List ℕ → ℕ → Row
 rowAt s k = rowFrom (drop (8 + 14 * k) s)
+
+-- unit u is in the row's set
+abbrev pub writes : Row → ℕ → Bool
+writes w u = inSet (w .start) (w .mask) u
 
 -- party r is the top of round r, the others are its lowers
 abbrev pub isTop : Slot → Bool

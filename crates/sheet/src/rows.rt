@@ -86,10 +86,10 @@ fn row_from(s: &[u8], at: usize) -> Row
     ensures { λ r. ⌜ r ≡ rowFrom (drop at (now (s .entry))) ⌝ }
 {
     Row {
-        start: bytes::two(s, at),
-        mask: bytes::eight(s, at + 2),
-        own: bytes::two(s, at + 10),
-        pair: bytes::two(s, at + 12),
+        start: bytes::two_at(s, at),
+        mask: bytes::eight_at(s, at + 2),
+        own: bytes::two_at(s, at + 10),
+        pair: bytes::two_at(s, at + 12),
     }
 }
 

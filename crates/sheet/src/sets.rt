@@ -34,15 +34,14 @@ pub fn bits(mask: u64) -> u64
     64 - u64::leading_zeros(mask) as u64
 }
 
-fn is_size_varying(bound: u64, start: u16, mask: u64) -> bool
-    requires { ⌜ bound ≤ 64 ⌝ }
+fn is_size_varying(bound: u8, start: u16, mask: u64) -> bool
     ensures { λ r. ⌜ r ≡ sizeVarying bound start mask ⌝ }
 {
     let b = bits(mask);
     if b == 0 {
         return false;
     }
-    if bound < b {
+    if (bound as u64) < b {
         return false;
     }
     if mask != ones(b) {
@@ -51,21 +50,20 @@ fn is_size_varying(bound: u64, start: u16, mask: u64) -> bool
     (start as u64) % b == 0
 }
 
-fn is_inconsecutive(bound: u64, start: u16, mask: u64) -> bool
-    requires { ⌜ (1 ≤ bound) × (bound ≤ 64) ⌝ }
+fn is_inconsecutive(bound: u8, start: u16, mask: u64) -> bool
     ensures { λ r. ⌜ r ≡ inconsecutive bound start mask ⌝ }
 {
     if mask == 0 {
         return false;
     }
-    if ones(bound) < mask {
+    if (bound as u64) < bits(mask) {
         return false;
     }
-    (start as u64) % bound == 0
+    start % (bound as u16) == 0
 }
 
-pub(crate) fn is_legal(kind: u8, bound: u64, start: u16, mask: u64) -> bool
-    requires { ⌜ (1 ≤ bound) × (bound ≤ 64) ⌝ }
+// Whether a set is legal for the kind.
+pub fn is_legal(kind: u8, bound: u8, start: u16, mask: u64) -> bool
     ensures { λ r. ⌜ r ≡ legal kind bound start mask ⌝ }
 {
     if kind == 1 {
@@ -76,7 +74,7 @@ pub(crate) fn is_legal(kind: u8, bound: u64, start: u16, mask: u64) -> bool
 }
 
 // Whether every unit of the set is below the unit count.
-pub(crate) fn is_below(units: u16, start: u16, mask: u64) -> bool
+pub fn is_below(units: u16, start: u16, mask: u64) -> bool
     ensures { λ r. ⌜ r ≡ below units start mask ⌝ }
 {
     if mask == 0 {

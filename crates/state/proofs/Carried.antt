@@ -8,7 +8,7 @@ use lib.ListN.{length, take, length-take}
 use lib.Seq.{take-all, take-length, getD-take}
 use Rattle.sheet.specs.Bytes.{num}
 use Rattle.sheet.specs.Rows.{layoutOf, partiesOf}
-use Rattle.sheet.specs.Words.{Rules6}
+use Rattle.rules.specs.Words.{Rules6}
 use Rattle.sheet.proofs.Numbers.{num-read}
 use Rattle.state.specs.Session.{carriedOf}
 

@@ -8,7 +8,7 @@ use lib.Seq.{take-all, take-append-le, take-append-seam, getD-append-add}
 use Rattle.sheet.specs.Rows.{partiesOf}
 use Rattle.sheet.specs.Lists.{from}
 use Rattle.sheet.specs.Bytes.{num, bigFrom}
-use Rattle.sheet.specs.Words.{Rules6}
+use Rattle.rules.specs.Words.{Rules6}
 use Rattle.sheet.proofs.Ranges.{length-range, range-at}
 use Rattle.sheet.proofs.Slots.{count-most}
 use Rattle.state.specs.Session.{freshParty, noParty, filled, carried, layout, partyOf}

@@ -8,12 +8,12 @@ use native.Mathlib.Omega.{arith}
 use lib.Dec.{T, eqb, ltb}
 use lib.ListN.{length, getD}
 use Rattle.answers.specs.Answers.{Answer, answer, done}
-use Rattle.sheet.specs.Check.{headerOk, lengthOk, checkAnswer}
+use Rattle.rules.specs.Check.{headerOk, lengthOk, checkAnswer}
 use Rattle.sheet.specs.Rows.{layoutOf}
-use Rattle.sheet.specs.Words.{Rules6}
+use Rattle.rules.specs.Words.{Rules6}
 use Rattle.sheet.proofs.Folds.{lt-or-le}
 use Rattle.sheet.proofs.TestWords.{Tells, tells, eq-words, le-words, and-words, or-words, cond-words, not-words, range-words}
-use Rattle.sheet.proofs.Says.{check-says, rows, writers}
+use Rattle.rules.proofs.Says.{check-says, rows, writers}
 use Rattle.state.specs.Session.{carriedOf, layout, noParty, partyOf, cell}
 use Rattle.state.specs.WellFormed.{carriedOk, marksOk, isLower, publishedOk, proposalsOk, partiesOk, wellFormed}
 use Rattle.state.specs.WellFormed.{roundOk, scanOk, partyOk, unusedOk}

@@ -7,8 +7,7 @@ use mathlib.Core.Bool.{Bool, true, false, not, _||_, cond}
 use native.Mathlib.Omega.{arith}
 use lib.Dec.{T, leb, eqb, ltb, ltb→lt, lt→ltb}
 use lib.ListN.{getD}
-use Rattle.sheet.specs.Lists.{from, all}
-use Rattle.sheet.specs.Check.{within}
+use Rattle.sheet.specs.Lists.{from, all, within}
 use Rattle.sheet.proofs.TestWords.{Tells, tells, decide, eq-words, le-words, and-words, or-words, cond-words, not-words, range-words}
 use Rattle.state.specs.WellFormed.{same}
 

@@ -10,8 +10,8 @@ use lib.Dec.{T, eqb}
 use lib.ListN.{length}
 use Rattle.sheet.specs.Rows.{partiesOf}
 use Rattle.answers.specs.Answers.{Answer, answer, done}
-use Rattle.sheet.specs.Check.{checkAnswer}
-use Rattle.sheet.specs.Words.{Rules6}
+use Rattle.rules.specs.Check.{checkAnswer}
+use Rattle.rules.specs.Words.{Rules6}
 use Rattle.state.specs.Session.{freshSession}
 use Rattle.state.specs.Opening.{openAnswer, opened}
 use Rattle.state.specs.declared.kept.Session.{Session}

@@ -4,8 +4,8 @@ use mathlib.Core.List.{List}
 use mathlib.Core.Bool.{Bool, not, _&&_, _||_, cond}
 use lib.ListN.{length, getD}
 use lib.Dec.{leb, ltb, eqb}
-use Rattle.sheet.specs.Lists.{from, all}
-use Rattle.sheet.specs.Check.{within, checkAnswer}
+use Rattle.sheet.specs.Lists.{from, all, within}
+use Rattle.rules.specs.Check.{checkAnswer}
 use Rattle.state.specs.Session.{carriedOf, layout, partyOf, cell}
 use Rattle.state.specs.declared.kept.Party.{Party}
 use Rattle.state.specs.declared.kept.Session.{Session}

@@ -9,8 +9,7 @@ use borrow.Author.Tests.{lt-ltb, le-ltb}
 use lib.Dec.{ltb, eqb}
 use lib.ListN.{length, getD, set}
 use lib.Seq.{getD-set-same, getD-set-other, set-set}
-use Rattle.sheet.specs.Rows.{Layout, slot}
-use Rattle.sheet.specs.Rules.{writes}
+use Rattle.sheet.specs.Rows.{Layout, slot, writes}
 use Rattle.state.specs.Session.{layout, noParty, partyOf, cell}
 use Rattle.state.specs.declared.kept.Party.{Party}
 use Rattle.state.specs.declared.kept.Session.{Session}

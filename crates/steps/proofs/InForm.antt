@@ -7,7 +7,7 @@ use native.Mathlib.Omega.{arith}
 use native.Mathlib.Nat.{mul-le-mul}
 use lib.ListN.{length, getD}
 use Rattle.sheet.specs.Rows.{partiesOf}
-use Rattle.sheet.specs.Words.{Rules6}
+use Rattle.rules.specs.Words.{Rules6}
 use Rattle.state.specs.Session.{carried, layout, partyOf, cell}
 use Rattle.state.specs.Words.{PartyRule, WellFormed}
 use Rattle.state.specs.declared.kept.Party.{Party}

@@ -9,9 +9,9 @@ use borrow.Author.Tests.{ltb-true}
 use lib.Dec.{ltb, eqb}
 use lib.ListN.{length, getD, set, length-set}
 use lib.Seq.{getD-set-other}
-use Rattle.sheet.specs.Rows.{slot}
-use Rattle.sheet.specs.Rules.{writes}
-use Rattle.sheet.specs.Words.{IsSlot, Rules6}
+use Rattle.sheet.specs.Rows.{slot, writes}
+use Rattle.sheet.specs.Words.{IsSlot}
+use Rattle.rules.specs.Words.{Rules6}
 use Rattle.state.specs.Session.{noParty, filled, carried, layout, partyOf, cell}
 use Rattle.state.specs.declared.kept.Party.{Party}
 use Rattle.state.specs.declared.kept.Session.{Session}

@@ -10,10 +10,9 @@ use borrow.Author.Tests.{lt-ltb, le-ltb, eq-eqb, ne-eqb}
 use lib.Dec.{T, leb, eqb, leb→le}
 use lib.ListN.{set}
 use lib.Seq.{set-getD}
-use Rattle.sheet.specs.Check.{within}
-use Rattle.sheet.specs.Lists.{all}
+use Rattle.sheet.specs.Lists.{within, all}
 use Rattle.sheet.specs.Rows.{Layout, partiesOf}
-use Rattle.sheet.specs.Words.{Rules6}
+use Rattle.rules.specs.Words.{Rules6}
 use Rattle.sheet.proofs.Folds.{and-left, and-right, or-cases, lt-or-le}
 use Rattle.state.specs.Session.{noParty, layout, partyOf}
 use Rattle.state.specs.declared.kept.Party.{Party}

@@ -5,7 +5,7 @@ use mathlib.Core.List.{List}
 use native.Mathlib.Omega.{arith}
 use lib.ListN.{length, getD, length-replicate}
 use Rattle.sheet.specs.Rows.{layoutOf, slot, partiesOf}
-use Rattle.sheet.specs.Words.{Rules6}
+use Rattle.rules.specs.Words.{Rules6}
 use Rattle.state.specs.Session.{freshParty, filled, freshSession, carried, layout, partyOf, cell}
 use Rattle.state.specs.Words.{WellFormed}
 use Rattle.state.specs.declared.kept.Party.{Party}

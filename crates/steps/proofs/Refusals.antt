@@ -6,8 +6,8 @@ use native.Mathlib.Nat.{le-trans}
 use native.Mathlib.Omega.{arith}
 use lib.Dec.{T}
 use Rattle.sheet.specs.Rows.{partiesOf}
-use Rattle.sheet.specs.Check.{within}
-use Rattle.sheet.specs.Words.{Rules6}
+use Rattle.sheet.specs.Lists.{within}
+use Rattle.rules.specs.Words.{Rules6}
 use Rattle.sheet.proofs.Folds.{holds, held}
 use Rattle.state.specs.Session.{carried, layout}
 use Rattle.state.specs.WellFormed.{wellFormed}

@@ -6,9 +6,9 @@ use native.Mathlib.Nat.{le-refl}
 use native.Mathlib.Omega.{arith}
 use borrow.Author.Tests.{le-leb}
 use lib.Dec.{T}
-use Rattle.sheet.specs.Rows.{layoutOf, slot, rowNumber, rowPlace, rowOf, taken, partiesOf}
-use Rattle.sheet.specs.Rules.{writes}
-use Rattle.sheet.specs.Words.{In, IsSlot, Lower, Rules5}
+use Rattle.sheet.specs.Rows.{layoutOf, slot, rowNumber, rowPlace, rowOf, taken, partiesOf, writes}
+use Rattle.sheet.specs.Words.{In, IsSlot, Lower}
+use Rattle.rules.specs.Words.{Rules5}
 use Rattle.sheet.specs.declared.rows.Slot.{Slot}
 use Rattle.sheet.specs.declared.rows.Taken.{Taken}
 use Rattle.sheet.proofs.Numbers.{taken-row}

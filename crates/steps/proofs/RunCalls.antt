@@ -9,9 +9,9 @@ use lib.Dec.{T, ltb, eqb}
 use lib.ListN.{length}
 use Rattle.sheet.specs.Rows.{partiesOf}
 use Rattle.sheet.specs.Lists.{all}
-use Rattle.sheet.specs.Words.{Rules6}
+use Rattle.rules.specs.Words.{Rules6}
 use Rattle.sheet.proofs.Folds.{and-left, and-right, and-both, held}
-use Rattle.sheet.proofs.Says.{past-6}
+use Rattle.rules.proofs.Says.{past-6}
 use Rattle.state.specs.Session.{freshSession, partyOf}
 use Rattle.state.specs.Opening.{opened}
 use Rattle.state.specs.declared.kept.Session.{Session}

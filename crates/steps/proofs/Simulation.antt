@@ -9,7 +9,8 @@ use lib.Dec.{eqb}
 use lib.ListN.{length, getD, set}
 use lib.Seq.{getD-set-same, getD-set-other}
 use Rattle.sheet.specs.Rows.{slot}
-use Rattle.sheet.specs.Words.{IsSlot, Rules6}
+use Rattle.sheet.specs.Words.{IsSlot}
+use Rattle.rules.specs.Words.{Rules6}
 use Rattle.state.specs.Session.{carried, layout, partyOf, cell}
 use Rattle.state.specs.declared.kept.Party.{Party}
 use Rattle.state.specs.declared.kept.Session.{Session}

@@ -7,7 +7,7 @@ use native.Mathlib.Nat.{mul-le-mul}
 use native.Mathlib.Decide.{ℕ-discrete}
 use borrow.Author.Tests.{eq-eqb, ne-eqb}
 use Rattle.sheet.specs.Rows.{partiesOf}
-use Rattle.sheet.specs.Words.{Rules6}
+use Rattle.rules.specs.Words.{Rules6}
 use Rattle.state.specs.Session.{layout, partyOf}
 use Rattle.state.specs.declared.kept.Session.{Session}
 use Rattle.steps.specs.Reach.{stepLimit}

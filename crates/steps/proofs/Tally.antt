@@ -12,7 +12,7 @@ use lib.Dec.{T, eqb}
 use lib.ListN.{length}
 use Rattle.sheet.specs.Rows.{partiesOf}
 use Rattle.sheet.specs.Lists.{all}
-use Rattle.sheet.specs.Words.{Rules6}
+use Rattle.rules.specs.Words.{Rules6}
 use Rattle.sheet.proofs.Folds.{and-left, and-right, lt-or-le}
 use Rattle.state.specs.Session.{freshSession, layout, partyOf}
 use Rattle.state.specs.declared.kept.Party.{Party}

@@ -4,9 +4,9 @@ use mathlib.Core.Path.{_≡_, sym, subst}
 use mathlib.Core.List.{List}
 use native.Mathlib.Omega.{arith}
 use lib.ListN.{length}
-use Rattle.sheet.specs.Rows.{layoutOf, slot, partiesOf}
-use Rattle.sheet.specs.Rules.{writes}
-use Rattle.sheet.specs.Words.{In, IsSlot, Rules6}
+use Rattle.sheet.specs.Rows.{layoutOf, slot, partiesOf, writes}
+use Rattle.sheet.specs.Words.{In, IsSlot}
+use Rattle.rules.specs.Words.{Rules6}
 use Rattle.sheet.specs.declared.rows.Row.{Row}
 use Rattle.sheet.proofs.Folds.{holds, fails}
 use Rattle.sheet.proofs.WriteSets.{in-set}

@@ -4,9 +4,9 @@ use mathlib.Core.Path.{_≡_, refl, _∙_, subst}
 use mathlib.Core.List.{List}
 use native.Mathlib.Omega.{arith}
 use lib.ListN.{length}
-use Rattle.sheet.specs.Rows.{slot}
-use Rattle.sheet.specs.Rules.{writes}
-use Rattle.sheet.specs.Words.{IsSlot, Rules6}
+use Rattle.sheet.specs.Rows.{slot, writes}
+use Rattle.sheet.specs.Words.{IsSlot}
+use Rattle.rules.specs.Words.{Rules6}
 use Rattle.state.specs.Session.{carried, layout}
 use Rattle.state.specs.declared.kept.Party.{Party}
 use Rattle.state.specs.declared.kept.Session.{Session}

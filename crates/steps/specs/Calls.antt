@@ -2,8 +2,7 @@
 use Prim.Native.Nat.{ℕ, suc}
 use mathlib.Core.List.{List, [], _∷_}
 use mathlib.Core.Bool.{Bool, _&&_, cond}
-use Rattle.sheet.specs.Lists.{from}
-use Rattle.sheet.specs.Check.{within}
+use Rattle.sheet.specs.Lists.{from, within}
 use Rattle.answers.specs.Answers.{numberOf, positionOf}
 use Rattle.state.specs.Session.{layout, partyOf}
 use Rattle.state.specs.WellFormed.{wellFormed}

@@ -5,9 +5,8 @@ use mathlib.Core.Bool.{Bool, _||_, cond}
 use lib.ListN.{length, drop}
 use lib.Dec.{ltb, eqb}
 use Rattle.sheet.specs.Rows.{partiesOf}
-use Rattle.sheet.specs.Lists.{firstBad}
+use Rattle.sheet.specs.Lists.{firstBad, within}
 use Rattle.answers.specs.Answers.{Answer, answer, done}
-use Rattle.sheet.specs.Check.{within}
 use Rattle.state.specs.Session.{freshSession}
 use Rattle.state.specs.Opening.{openAnswer}
 use Rattle.state.specs.declared.kept.Session.{Session}

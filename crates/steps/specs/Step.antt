@@ -4,8 +4,7 @@ use mathlib.Core.List.{List, [], _∷_}
 use mathlib.Core.Bool.{Bool, cond}
 use lib.ListN.{getD, set}
 use lib.Dec.{ltb, eqb}
-use Rattle.sheet.specs.Rows.{Layout, slot}
-use Rattle.sheet.specs.Rules.{writes}
+use Rattle.sheet.specs.Rows.{Layout, slot, writes}
 use Rattle.state.specs.Session.{layout, partyOf, cell}
 use Rattle.state.specs.declared.kept.Party.{Party}
 use Rattle.state.specs.declared.kept.Session.{Session}

@@ -6,7 +6,7 @@ use lib.ListN.{length}
 use borrow.Author.Needs.{needs}
 use borrow.Author.Tests.{not-true, not-false, lt-ltb, le-ltb}
 use Rattle.sheet.specs.Rows.{sheetLength}
-use Rattle.sheet.specs.Check.{numbersOk}
+use Rattle.rules.specs.Check.{numbersOk}
 use Rattle.builder.specs.Build.{given}
 use Rattle.builder.specs.Given.{Given}
 use Rattle.sheet.proofs.Folds.{held}

@@ -3,9 +3,9 @@ use mathlib.Core.Path.{sym, ap, _∙_}
 use borrow.Author.Needs.{needs}
 use Rattle.answers.specs.Answers.{answerOf, done}
 use Rattle.answers.proofs.Verdicts.{refused-number}
-use Rattle.sheet.specs.Check.{unlessUnfit}
-use Rattle.sheet.specs.Words.{Rules5}
-use Rattle.sheet.proofs.Says.{every-6, fails-6, at-6, past-6, fit-says, unfit-stays}
+use Rattle.rules.specs.Check.{unlessUnfit}
+use Rattle.rules.specs.Words.{Rules5}
+use Rattle.rules.proofs.Says.{every-6, fails-6, at-6, past-6, fit-says, unfit-stays}
 use Rattle.rules.proofs.check.Statement.{statement}
 use Rattle.rules.proofs.check.Tie as tie
 

@@ -9,7 +9,7 @@ use lib.ListN.{drop}
 use Rattle.rules.specs.Quick.{edge, edgeAfter, edgeOver}
 use Rattle.sheet.specs.Rows.{slots, layoutOf, partiesOf}
 use Rattle.rules.specs.declared.writers.Edge.{Edge}
-use Rattle.sheet.proofs.RowLoop.{Going, going-first, going-row, going-place, going-on, going-left, going-end}
+use Rattle.rules.proofs.RowLoop.{Going, going-first, going-row, going-place, going-on, going-left, going-end}
 use Rattle.rules.proofs.writers.ascends.Statement.{statement}
 use Rattle.rules.proofs.writers.ascends.Tie as tie
 

@@ -12,7 +12,7 @@ use Rattle.sheet.specs.Sets.{apart}
 use Rattle.sheet.specs.declared.rows.Row.{Row}
 use Rattle.sheet.specs.declared.rows.Slot.{Slot}
 use Rattle.sheet.proofs.Folds.{held, failed}
-use Rattle.sheet.proofs.RowLoop.{Going, Left, going-first, going-row, going-place, going-on, left-on, left-here, left-end}
+use Rattle.rules.proofs.RowLoop.{Going, Left, going-first, going-row, going-place, going-on, left-on, left-here, left-end}
 use Rattle.rules.proofs.writers.clear_of_rounds.Statement.{statement}
 use Rattle.rules.proofs.writers.clear_of_rounds.Tie as tie
 

@@ -6,7 +6,7 @@ use borrow.Author.Tests.{not-true, not-false}
 use Rattle.rules.specs.Quick.{quickRule}
 use Rattle.sheet.specs.Rows.{layoutOf}
 use Rattle.sheet.proofs.Folds.{held, failed}
-use Rattle.sheet.proofs.RowLoop.{Going, Passed, going-first, going-slot, going-on, passed-on, passed-here, passed-end}
+use Rattle.rules.proofs.RowLoop.{Going, Passed, going-first, going-slot, going-on, passed-on, passed-here, passed-end}
 use Rattle.rules.proofs.writers.first_clash.Statement.{statement}
 use Rattle.rules.proofs.writers.first_clash.Tie as tie
 

@@ -10,11 +10,12 @@ use lib.ListN.{length}
 use Rattle.sheet.specs.Lists.{from, all}
 use Rattle.rules.specs.Quick.{beside, aloneInRound, clearOfRounds}
 use Rattle.sheet.specs.Rows.{slot, rowCount, rowNumber, rowAt, layoutOf, taken, partiesOf}
-use Rattle.sheet.specs.Words.{IsSlot, Rules4}
+use Rattle.sheet.specs.Words.{IsSlot}
+use Rattle.rules.specs.Words.{Rules4}
 use Rattle.sheet.specs.declared.rows.Row.{Row}
 use Rattle.sheet.specs.declared.rows.Slot.{Slot}
 use Rattle.sheet.specs.declared.rows.Taken.{Taken}
-use Rattle.sheet.proofs.RowLoop.{going-row}
+use Rattle.rules.proofs.RowLoop.{going-row}
 use Rattle.sheet.proofs.Slots.{AtRow, count-most, slot-row, round-number, round-inside}
 use Rattle.rules.proofs.writers.writer_fits.Statement.{statement}
 use Rattle.rules.proofs.writers.writer_fits.Tie as tie

@@ -5,8 +5,7 @@ use mathlib.Core.Bool.{cond}
 use borrow.Author.Needs.{needs}
 use borrow.Author.Tests.{eq-eqb, ne-eqb}
 use lib.Dec.{T, eqb}
-use Rattle.sheet.specs.Rows.{layoutOf, slot}
-use Rattle.sheet.specs.Rules.{writes}
+use Rattle.sheet.specs.Rows.{layoutOf, slot, writes}
 use Rattle.sheet.specs.declared.rows.Row.{Row}
 use Rattle.steps.specs.Step.{stamped, written}
 use Rattle.steps.proofs.RowOf.{row-read, set-in-memory}

@@ -6,7 +6,7 @@ use native.Mathlib.Omega.{arith}
 use borrow.Author.Needs.{needs}
 use borrow.Author.Tests.{le-leb, lt-leb}
 use lib.Dec.{leb}
-use Rattle.sheet.specs.Check.{within}
+use Rattle.sheet.specs.Lists.{within}
 use Rattle.sheet.proofs.Folds.{lt-or-le, same-test}
 use Rattle.sheet.proofs.TestWords.{Tells}
 use Rattle.state.proofs.Tested.{and-then, and-else}

@@ -11,7 +11,7 @@ use lib.ListN.{length, drop}
 use Rattle.sheet.specs.Rows.{partiesOf}
 use Rattle.answers.specs.Answers.{answer, done, answerOf}
 use Rattle.sheet.specs.Lists.{all, firstBad}
-use Rattle.sheet.specs.Words.{Rules6}
+use Rattle.rules.specs.Words.{Rules6}
 use Rattle.answers.specs.declared.Refusal.the-variants.{Schedule, Output}
 use Rattle.answers.specs.declared.Verdict.the-variants.{Refused}
 use Rattle.sheet.proofs.Folds.{held, failed}

@@ -8,7 +8,7 @@ use Rattle.sheet.proofs.rows.row_from.Tie as tie
 returns : tie.Need-returns
 returns c =
     let at-two = c .before .before .before in
-    simp (num-drop, add-zero, at-two .two .ensures, c .before .before .eight .ensures, c .before .two2 .ensures, c .two3 .ensures)
+    simp (num-drop, add-zero, at-two .two-at .ensures, c .before .before .eight-at .ensures, c .before .two-at2 .ensures, c .two-at3 .ensures)
 
 pub row-from-spec : {M : Type 1} → statement M
 row-from-spec =

@@ -1,17 +1,17 @@
 -- An empty set is below any count, and any other exactly if its length past the start stays within it: a shorter mask has no bit there.
 use borrow.Author.Needs.{needs}
-use mathlib.Core.Path.{_≡_, sym, ap, subst, _∙_}
+use mathlib.Core.Path.{_≡_, sym, ap, _∙_}
 use mathlib.Core.Logic.{_↔_}
 use mathlib.Core.Bool.{true}
 use Prim.Native.Nat.{ℕ, _+_, _-_, _^_, _<_, _≤_}
-use native.Mathlib.Nat.{lt-of-lt-of-le, pos-of-ne-zero}
+use native.Mathlib.Nat.{lt-of-lt-of-le}
 use native.Mathlib.Omega.{arith}
 use lib.Dec.{T, leb, leb→le, le→leb}
 use Rattle.sheet.specs.Sets.{below}
 use Rattle.sheet.specs.Length.{bitLength}
 use Rattle.sheet.proofs.Bits.{bit-under, under-bits}
 use Rattle.sheet.proofs.Folds.{holds, same-test}
-use Rattle.sheet.proofs.WriteSets.{At, bit-at, below-at, length-holds, length-least, at-before-end}
+use Rattle.sheet.proofs.WriteSets.{At, bit-at, below-at, length-some, length-least, at-before-end}
 use Rattle.sheet.proofs.sets.is_below.Statement.{statement}
 use Rattle.sheet.proofs.sets.is_below.Tie as tie
 
@@ -28,8 +28,7 @@ module _ (units start mask : ℕ) (h : mask < 2 ^ 64) where
       let room = units - start in
       let fits : mask < 2 ^ room = under-bits mask room (λ j le b. omega (arith, g (start + j) (bit-at start mask j b))) in
       let short : bitLength mask ≤ room = length-least mask room h fits in
-      let zero : bitLength mask ≡ 0 → mask < 1 = λ e. subst (λ (x : ℕ). mask < 2 ^ x) e (length-holds mask h) in
-      let long : 0 < bitLength mask = pos-of-ne-zero (λ e. some (omega (arith, zero e))) in
+      let long : 0 < bitLength mask = length-some mask h some in
       omega arith
 
   ends : (mask ≡ 0 → ⊥) → leb (start + bitLength mask) units ≡ below units start mask

@@ -15,7 +15,7 @@ use Rattle.sheet.proofs.sets.is_size_varying.Tie as tie
 -- the parts, said of the length that `bits` gives
 parts : (c : tie.After-bits)
     → let a = c .before .args in T (sizeVarying (a .bound) (a .start) (a .mask)) ↔ Run (a .bound) (a .start) (a .mask) (c .bits .result)
-parts c = let a = c .before in run-length (a .args .bound) (a .args .start) (a .args .mask) (c .bits .result) (a .pre) (c .bits .ensures .0)
+parts c = let a = c .before in run-length (a .args .bound) (a .args .start) (a .args .mask) (c .bits .result) (a .fits .mask .fits) (c .bits .ensures .0)
 
 bits-requires : tie.Need-bits-requires
 bits-requires c κs = search needs

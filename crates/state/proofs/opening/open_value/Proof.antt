@@ -5,7 +5,7 @@ use native.Mathlib.Omega.{arith}
 use lib.ListN.{length}
 use Rattle.sheet.specs.Rows.{partiesOf}
 use Rattle.answers.specs.Answers.{done, answerOf}
-use Rattle.sheet.specs.Words.{Rules6}
+use Rattle.rules.specs.Words.{Rules6}
 use Rattle.state.specs.Opening.{openAnswer}
 use Rattle.state.proofs.Filled.{sheet-most}
 use Rattle.answers.proofs.Verdicts.{refused-number}

@@ -3,9 +3,9 @@ use mathlib.Core.Path.{_≡_, sym, ap, _∙_}
 use borrow.Author.Needs.{needs}
 use native.Mathlib.Omega.{arith}
 use Rattle.answers.specs.Answers.{done, answerOf}
-use Rattle.sheet.specs.Check.{checkAnswer}
-use Rattle.sheet.specs.Words.{Rules3}
-use Rattle.sheet.proofs.Says.{check-says}
+use Rattle.rules.specs.Check.{checkAnswer}
+use Rattle.rules.specs.Words.{Rules3}
+use Rattle.rules.proofs.Says.{check-says}
 use Rattle.answers.proofs.Verdicts.{refused-number}
 use Rattle.state.proofs.Openings.{not-accepted, miscounted, opens}
 use Rattle.state.proofs.opening.opens.Statement.{statement}

@@ -7,7 +7,7 @@ use borrow.Author.Tests.{eq-eqb}
 use lib.ListN.{take}
 use lib.Seq.{length-take-le}
 use Rattle.answers.specs.Answers.{Answer, answerOf}
-use Rattle.sheet.specs.Check.{checkAnswer}
+use Rattle.rules.specs.Check.{checkAnswer}
 use Rattle.answers.proofs.Verdicts.{refused-number}
 use Rattle.state.proofs.wellformed.is_accepted.Statement.{statement}
 use Rattle.state.proofs.wellformed.is_accepted.Tie as tie

@@ -4,7 +4,7 @@ use Prim.Native.Nat.{ℕ, _≤_}
 use native.Mathlib.Omega.{arith}
 use borrow.Author.Needs.{needs}
 use Rattle.sheet.specs.Rows.{partiesOf}
-use Rattle.sheet.specs.Words.{Rules6}
+use Rattle.rules.specs.Words.{Rules6}
 use Rattle.sheet.proofs.Folds.{held, fails, failed}
 use Rattle.state.specs.Session.{ofParts, carried, layout}
 use Rattle.state.specs.WellFormed.{carriedOk, marksOk, publishedOk, proposalsOk, partiesOk, wellFormed}

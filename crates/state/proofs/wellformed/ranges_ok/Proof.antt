@@ -5,7 +5,7 @@ use mathlib.Core.Bool.{_&&_}
 use borrow.Author.Needs.{needs}
 use borrow.Author.Tests.{le-leb, lt-leb}
 use lib.Dec.{leb}
-use Rattle.sheet.specs.Check.{within}
+use Rattle.sheet.specs.Lists.{within}
 use Rattle.state.proofs.Tested.{and-then, and-else}
 use Rattle.state.proofs.wellformed.ranges_ok.Statement.{statement}
 use Rattle.state.proofs.wellformed.ranges_ok.Tie as tie

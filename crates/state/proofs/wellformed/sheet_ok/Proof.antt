@@ -7,7 +7,7 @@ use borrow.Author.Needs.{needs}
 use lib.Dec.{eqb}
 use lib.ListN.{length, getD, take}
 use Rattle.sheet.specs.Lists.{from, all}
-use Rattle.sheet.specs.Check.{checkAnswer}
+use Rattle.rules.specs.Check.{checkAnswer}
 use Rattle.state.specs.Session.{carriedOf}
 use Rattle.state.proofs.Tested.{passed, stopped, last, ends}
 use Rattle.state.proofs.Carried.{front-fits, front-carried, length-carried}

@@ -9,17 +9,18 @@ use borrow.Author.Tests.{lt-ltb, le-ltb, ne-eqb, eqb-false}
 use lib.Dec.{T, leb, ltb, eqb}
 use lib.ListN.{length, getD}
 use Rattle.answers.specs.Answers.{Answer, answer, done}
 use Rattle.sheet.specs.Lists.{firstBad}
 use Rattle.sheet.specs.Rows.{Layout, layoutOf, slots}
-use Rattle.sheet.specs.Rules.{rowRule, writerRule}
-use Rattle.sheet.specs.Check.{headerOk, lengthOk, unlessRow, unlessUnfit, checkAnswer}
-use Rattle.sheet.specs.Words.{IsSlot, RowRule, WriterRule, Every, FirstFailing, Rules1, Rules2, Rules3, Rules4, Rules5, Rules6}
-use Rattle.sheet.specs.Says.{CheckSays}
+use Rattle.rules.specs.Rules.{rowRule, writerRule}
+use Rattle.rules.specs.Check.{headerOk, lengthOk, unlessRow, unlessUnfit, checkAnswer}
+use Rattle.sheet.specs.Words.{IsSlot}
+use Rattle.rules.specs.Words.{RowRule, WriterRule, Every, FirstFailing, Rules1, Rules2, Rules3, Rules4, Rules5, Rules6}
+use Rattle.rules.specs.Says.{CheckSays}
 use Rattle.sheet.specs.declared.rows.Slot.{Slot}
 use Rattle.sheet.proofs.Folds.{holds, fails}
 use Rattle.sheet.proofs.FirstBad.{first-every, first-row}
 use Rattle.sheet.proofs.TestWords.{Tells, tells, decide, eq-words, le-words}
-use Rattle.sheet.proofs.RuleWords.{header-says, length-says, row-says, writer-says}
+use Rattle.rules.proofs.RuleWords.{header-says, length-says, row-says, writer-says}
 
 -- ---- the first row that fails, in words
 

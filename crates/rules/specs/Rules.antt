@@ -2,15 +2,11 @@
 use Prim.Native.Nat.{ℕ}
 use mathlib.Core.Bool.{Bool, not, _&&_, _||_, cond}
 use lib.Dec.{eqb}
 use Rattle.sheet.specs.Lists.{all}
 use Rattle.sheet.specs.Sets.{inSet, legal, below, apart}
-use Rattle.sheet.specs.Rows.{Layout, slots, isTop, sameSlot}
+use Rattle.sheet.specs.Rows.{Layout, slots, writes, isTop, sameSlot}
 use Rattle.sheet.specs.declared.rows.Row.{Row}
 use Rattle.sheet.specs.declared.rows.Slot.{Slot}
-
--- unit u is in the row's set
-abbrev pub writes : Row → ℕ → Bool
-writes w u = inSet (w .start) (w .mask) u
 
 -- refusal 5: the set is legal for the kind, and below the unit count; the own unit is in it; for a lower the pair unit is in it too; for a top the pair field is zero
 abbrev pub rowFits : ℕ → ℕ → ℕ → Bool → Row → Bool

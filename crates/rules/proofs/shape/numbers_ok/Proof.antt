@@ -2,8 +2,8 @@
 use mathlib.Core.Path.{sym, _∙_}
 use borrow.Author.Needs.{needs}
 use borrow.Author.Tests.{not-true, not-false}
-use Rattle.sheet.proofs.rules.numbers_ok.Statement.{statement}
-use Rattle.sheet.proofs.rules.numbers_ok.Tie as tie
+use Rattle.rules.proofs.shape.numbers_ok.Statement.{statement}
+use Rattle.rules.proofs.shape.numbers_ok.Tie as tie
 
 is-within-requires : tie.Need-is-within-requires
 is-within-requires c κs = search needs

@@ -7,17 +7,19 @@ use native.Mathlib.Nat.{le-refl}
 use native.Mathlib.Omega.{arith}
 use lib.Dec.{T}
 use lib.ListN.{length}
 use Rattle.sheet.specs.Bytes.{num}
 use Rattle.sheet.specs.Sets.{legal, below, apart}
-use Rattle.sheet.specs.Rows.{Layout, slot, sameSlot, sheetLength, partiesOf}
-use Rattle.sheet.specs.Rules.{writes, rowRule, ownAlone, setApart, pairShared, writerRule}
-use Rattle.sheet.specs.Check.{within, headerOk, lengthOk}
-use Rattle.sheet.specs.Words.{In, IsSlot, Other, Lower, Top, RowRule, WriterRule, HeaderRule, LengthRule, Every}
+use Rattle.sheet.specs.Rows.{Layout, slot, sameSlot, sheetLength, partiesOf, writes}
+use Rattle.rules.specs.Rules.{rowRule, ownAlone, setApart, pairShared, writerRule}
+use Rattle.sheet.specs.Lists.{within}
+use Rattle.rules.specs.Check.{headerOk, lengthOk}
+use Rattle.sheet.specs.Words.{In, IsSlot, Other, Lower, Top}
+use Rattle.rules.specs.Words.{RowRule, WriterRule, HeaderRule, LengthRule, Every}
 use Rattle.sheet.specs.declared.rows.Row.{Row}
 use Rattle.sheet.specs.declared.rows.Slot.{Slot}
 use Rattle.sheet.proofs.Folds.{lt-or-le}
 use Rattle.sheet.proofs.WriteSets.{in-set, legal-says, legal-64, below-says, apart-says}
 use Rattle.sheet.proofs.TestWords.{Tells, tells, eq-words, le-words, and-words, or-words, cond-words, not-words, all-words}
 
 pub in-words : (w : Row) (u : ℕ) → Tells (writes w u) (In w u)
 in-words w u = tells (writes w u) (in-set w u)

@@ -4,9 +4,9 @@ use mathlib.Core.Path.{_≡_}
 use mathlib.Core.List.{List}
 use mathlib.Core.Logic.{_↔_}
 use Rattle.answers.specs.Answers.{answer, done}
 use Rattle.sheet.specs.Rows.{layoutOf}
-use Rattle.sheet.specs.Check.{checkAnswer}
-use Rattle.sheet.specs.Words.{RowRule, WriterRule, FirstFailing, Rules1, Rules2, Rules3, Rules4, Rules5, Rules6}
+use Rattle.rules.specs.Check.{checkAnswer}
+use Rattle.rules.specs.Words.{RowRule, WriterRule, FirstFailing, Rules1, Rules2, Rules3, Rules4, Rules5, Rules6}
 
 -- every answer of the check of s, and what it says: accepted exactly if every rule holds; refused with n exactly if the rules before n hold and n's does not,
 -- with the first failing row for 5 and 6, else 0

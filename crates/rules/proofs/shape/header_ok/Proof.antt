@@ -1,9 +1,11 @@
 -- The numbers and then the units are tested as the definition does, on the header's bytes.
+use mathlib.Core.Path.{_∙_}
 use native.Mathlib.Omega.{arith}
 use borrow.Author.Needs.{needs}
 use borrow.Author.Tests.{not-true, not-false}
-use Rattle.sheet.proofs.rules.header_ok.Statement.{statement}
-use Rattle.sheet.proofs.rules.header_ok.Tie as tie
+use Rattle.sheet.proofs.Numbers.{num-two}
+use Rattle.rules.proofs.shape.header_ok.Statement.{statement}
+use Rattle.rules.proofs.shape.header_ok.Tie as tie
 
 cast-numbers-ok : tie.Need-cast-numbers-ok
 cast-numbers-ok c = omega (arith, c .shared-slice-known2 .given 3)
@@ -18,7 +20,11 @@ returns : tie.Need-returns
 returns c = simp (← c .before .numbers-ok .ensures, not-true (c .before .numbers-ok .result) (c .if1 .taken))
 
 returns-2 : tie.Need-returns-2
-returns-2 c = simp (← c .before .before .before .numbers-ok .ensures, not-false (c .before .before .before .numbers-ok .result) (c .before .before .if1 .left), ← c .before .two .ensures, ← c .is-within .ensures)
+returns-2 c =
+    let start = c .before .before .before .before .before .before .before .before .before .before in
+    let tested = c .before .before .before .before .before in
+    let units = c .before .two .ensures ∙ num-two (start .args .s .now) 6 (omega (arith, start .pre .whole)) in
+    simp (← tested .numbers-ok .ensures, not-false (tested .numbers-ok .result) (c .before .before .before .before .if1 .left), ← units) (c .is-within .ensures)
 
 pub header-ok-spec : {M : Type 1} → statement M
 header-ok-spec =
@@ -32,6 +38,8 @@ header-ok-spec =
     cast-numbers-ok-3
     (λ c κs. search needs)
     returns
+    (λ c. search needs)
+    (λ c. search needs)
     (λ c κs. search needs)
     (λ c. search needs)
     (λ c κs. search needs)

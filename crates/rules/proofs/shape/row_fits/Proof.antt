@@ -1,8 +1,8 @@
 -- Each return has the tests that led to it, and with them the definition computes to its answer.
 use borrow.Author.Needs.{needs}
 use borrow.Author.Tests.{not-true, not-false}
-use Rattle.sheet.proofs.rules.row_fits.Statement.{statement}
-use Rattle.sheet.proofs.rules.row_fits.Tie as tie
+use Rattle.rules.proofs.shape.row_fits.Statement.{statement}
+use Rattle.rules.proofs.shape.row_fits.Tie as tie
 
 returns : tie.Need-returns
 returns c = simp (← c .before .is-legal .ensures, not-true (c .before .is-legal .result) (c .if1 .taken))

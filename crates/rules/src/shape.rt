@@ -1,16 +1,15 @@
 // The header, the lengths and the row rule.
 ghost use mathlib.Core.Path.{_≡_};
-ghost use Prim.Native.Nat.{_≤_};
-ghost use Rattle.sheet.specs.Lists.{firstBad};
+ghost use Rattle.sheet.specs.Lists.{firstBad, within};
 ghost use Rattle.sheet.specs.Rows.{layoutOf, slots, partiesOf};
-ghost use Rattle.sheet.specs.Rules.{rowFits, rowRule};
-ghost use Rattle.sheet.specs.Check.{within, numbersOk, headerOk, lengthOk};
-ghost use Rattle.sheet.specs.Words.{Rules1, Rules4};
-use crate::bytes;
-use crate::rows;
-use crate::rows::Row;
-use crate::rows::Slot;
-use crate::sets;
+ghost use Rattle.rules.specs.Rules.{rowFits, rowRule};
+ghost use Rattle.rules.specs.Check.{numbersOk, headerOk, lengthOk};
+ghost use Rattle.rules.specs.Words.{Rules1, Rules4};
+use sheet::bytes;
+use sheet::rows;
+use sheet::rows::Row;
+use sheet::rows::Slot;
+use sheet::sets;
 
 fn is_within(lo: u32, hi: u32, x: u32) -> bool
     ensures { λ r. ⌜ r ≡ within lo hi x ⌝ }
@@ -38,7 +37,7 @@ pub(crate) fn header_ok(s: &[u8]) -> bool
     if !numbers_ok(s[3] as u32, s[4] as u32, s[5] as u32) {
         return false;
     }
-    is_within(1, 1024, bytes::two(s, 6) as u32)
+    is_within(1, 1024, bytes::two(s[6], s[7]) as u32)
 }
 
 pub(crate) fn length_ok(s: &[u8]) -> bool
@@ -46,15 +45,14 @@ pub(crate) fn length_ok(s: &[u8]) -> bool
     ensures { λ r. ⌜ r ≡ lengthOk (now (s .entry)) ⌝ }
 {
     let whole = rows::sheet_length(s[5]);
-    if bytes::two(s, 0) as usize != whole {
+    if bytes::two(s[0], s[1]) as usize != whole {
         return false;
     }
     s.len() == whole
 }
 
 // Whether a row keeps the row rule.
-fn row_fits(kind: u8, bound: u64, units: u16, top: bool, w: Row) -> bool
-    requires { ⌜ (1 ≤ bound) × (bound ≤ 64) ⌝ }
+fn row_fits(kind: u8, bound: u8, units: u16, top: bool, w: Row) -> bool
     ensures { λ r. ⌜ r ≡ rowFits kind bound units top w ⌝ }
 {
     let start = w.start;
@@ -81,9 +79,9 @@ pub(crate) fn first_bad_row(s: &[u8]) -> usize
     ensures { λ r. ⌜ r ≡ firstBad (rowRule (layoutOf (now (s .entry)))) 1 (slots (partiesOf (now (s .entry)))) ⌝ }
 {
     let kind = s[3];
-    let bound = bytes::wide(s[4]);
+    let bound = s[4];
     let count = rows::row_count(s[5]);
-    let units = bytes::two(s, 6);
+    let units = bytes::two(s[6], s[7]);
     let mut p = Slot::first();
     let mut k = 0;
     while k < count {

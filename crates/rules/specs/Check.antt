@@ -5,13 +5,10 @@ use mathlib.Core.Bool.{Bool, not, _&&_, cond}
 use lib.ListN.{length, getD}
 use lib.Dec.{leb, ltb, eqb}
 use Rattle.answers.specs.Answers.{Answer, answer, done}
-use Rattle.sheet.specs.Lists.{firstBad}
+use Rattle.sheet.specs.Lists.{firstBad, within}
 use Rattle.sheet.specs.Bytes.{num}
 use Rattle.sheet.specs.Rows.{Layout, layoutOf, slots, sheetLength, partiesOf}
-use Rattle.sheet.specs.Rules.{rowRule, writerRule}
-
-abbrev pub within : ℕ → ℕ → ℕ → Bool
-within lo hi x = leb lo x && leb x hi
+use Rattle.rules.specs.Rules.{rowRule, writerRule}
 
 -- kind 1 or 2, bound 1 to 64, N 1 to 16
 abbrev pub numbersOk : ℕ → ℕ → ℕ → Bool

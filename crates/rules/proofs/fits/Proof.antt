@@ -4,11 +4,11 @@ use borrow.Author.Tests.{not-true, not-false}
 use mathlib.Core.Path.{sym, _∙_}
 use native.Mathlib.Omega.{arith}
 use Rattle.answers.specs.Answers.{done}
-use Rattle.sheet.specs.Words.{Rules1, Rules2, Rules3, Rules4, Rules5}
+use Rattle.rules.specs.Words.{Rules1, Rules2, Rules3, Rules4, Rules5}
 use Rattle.sheet.proofs.Folds.{held, failed}
-use Rattle.sheet.proofs.Says.{says-3, says-4, fails-5, rows-of-none, at-1, at-2, at-3, at-4, at-5, past-5}
-use Rattle.sheet.proofs.fits.Statement.{statement}
-use Rattle.sheet.proofs.fits.Tie as tie
+use Rattle.rules.proofs.Says.{says-3, says-4, fails-5, rows-of-none, at-1, at-2, at-3, at-4, at-5, past-5}
+use Rattle.rules.proofs.fits.Statement.{statement}
+use Rattle.rules.proofs.fits.Tie as tie
 
 -- ---- the rules that hold past each test
 

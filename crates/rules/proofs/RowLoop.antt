@@ -7,15 +7,16 @@ use native.Mathlib.Numerals.{add-one}
 use native.Mathlib.Omega.{arith}
 use lib.Dec.{T}
 use lib.ListN.{drop}
 use Rattle.sheet.specs.Lists.{all, firstBad}
 use Rattle.sheet.specs.Rows.{slot, slots, slotAfter, rowCount, rowAt, rowNumber, layoutOf, taken, partiesOf}
-use Rattle.sheet.specs.Words.{IsSlot, Rules4}
+use Rattle.sheet.specs.Words.{IsSlot}
+use Rattle.rules.specs.Words.{Rules4}
 use Rattle.sheet.specs.declared.rows.Slot.{Slot}
 use Rattle.sheet.specs.declared.rows.Taken.{Taken}
 use Rattle.sheet.proofs.Folds.{holds, fails}
 use Rattle.sheet.proofs.FirstBad.{first-on, first-here}
 use Rattle.sheet.proofs.Numbers.{taken-row}
 use Rattle.sheet.proofs.Slots.{AtRow, after-next, at-first, at-next, at-slot, count-most, slots-step, slots-end}
 
 -- what a loop over the rows knows at place k, where the next row is p's
 pub record Going (s : List ℕ) (count k : ℕ) (p : Slot) : Type 0 where

@@ -1,7 +1,7 @@
 -- The first test is taken or not, and the second is the answer where it is.
 use borrow.Author.Tests.{le-leb, lt-leb}
-use Rattle.sheet.proofs.rules.is_within.Statement.{statement}
-use Rattle.sheet.proofs.rules.is_within.Tie as tie
+use Rattle.rules.proofs.shape.is_within.Statement.{statement}
+use Rattle.rules.proofs.shape.is_within.Tie as tie
 
 returns : tie.Need-returns
 returns c = simp (le-leb _ _ (c .if1 .taken))

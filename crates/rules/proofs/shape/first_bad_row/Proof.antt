@@ -5,13 +5,14 @@ use native.Mathlib.Omega.{arith}
 use borrow.Author.Needs.{needs}
 use borrow.Author.Tests.{not-true, not-false}
 use lib.ListN.{getD}
 use Rattle.sheet.specs.Bytes.{num}
 use Rattle.sheet.specs.Rows.{isTop, layoutOf}
-use Rattle.sheet.specs.Rules.{rowFits, rowRule}
+use Rattle.rules.specs.Rules.{rowFits, rowRule}
+use Rattle.sheet.proofs.Numbers.{num-two}
 use Rattle.sheet.proofs.Folds.{held, failed}
-use Rattle.sheet.proofs.RowLoop.{Going, Passed, going-first, going-row, going-place, going-on, passed-on, passed-here, passed-end}
-use Rattle.sheet.proofs.rules.first_bad_row.Statement.{statement}
-use Rattle.sheet.proofs.rules.first_bad_row.Tie as tie
+use Rattle.rules.proofs.RowLoop.{Going, Passed, going-first, going-row, going-place, going-on, passed-on, passed-here, passed-end}
+use Rattle.rules.proofs.shape.first_bad_row.Statement.{statement}
+use Rattle.rules.proofs.shape.first_bad_row.Tie as tie
 
 abbrev Inv-loop : tie.InvT-loop
 Inv-loop s kind bound count units p₀ k₀ p k =
@@ -22,26 +23,27 @@ abbrev μ-loop : tie.MeasureT-loop
 
 -- what the call of `row_fits` says is the row rule of p's row
 kept : (c : tie.After-row-fits Inv-loop μ-loop)
-    → c .row-fits .result ≡ rowRule (layoutOf (c .before .before .before .before .before .before .before .before .before .before .before .before .before .before .args .s .now)) (c .before .before .before .before .before .loop .p)
+    → c .row-fits .result ≡ rowRule (layoutOf (c .before .before .before .before .before .before .before .before .before .before .before .before .before .before .before .args .s .now)) (c .before .before .before .before .before .loop .p)
 kept c =
-    let s = c .before .before .before .before .before .before .before .before .before .before .before .before .before .before .args .s .now in
+    let s = c .before .before .before .before .before .before .before .before .before .before .before .before .before .before .before .args .s .now in
     let l = c .before .before .before .before .before .loop in
     let row = going-row s _ (l .k) (l .p) (l .inv .0) (c .before .before .before .before .loop-test .taken) (c .before .before .before .row-after .result) (c .before .before .before .row-after .ensures) in
     c .row-fits .ensures ∙ (λ i. rowFits (getD s 3 0) (l .inv .2 i) (l .inv .3 i) (isTop (l .p)) (row i))
 
 loop-holds : tie.Need-loop-holds Inv-loop μ-loop
 loop-holds c =
-    let s = c .before .before .before .before .before .before .before .before .args .s .now in (
-      going-first s _ _ (c .before .before .before .before .before .before .before .before .pre) (c .before .before .row-count .ensures .0) (c .first .ensures),
+    let start = c .before .before .before .before .before .before .before .before .before in
+    let s = start .args .s .now in (
+      going-first s _ _ (start .pre) (c .before .before .before .before .row-count .ensures .0) (c .first .ensures),
       refl,
-      c .before .before .before .before .wide .ensures .0,
-      c .before .two .ensures,
+      refl,
+      c .before .two .ensures ∙ num-two s 6 (omega (arith, start .pre .before .before .before .whole)),
       refl,
     )
 
 returns : tie.Need-returns Inv-loop μ-loop
 returns c =
-    let s = c .before .before .before .before .before .before .before .before .before .before .before .before .before .before .before .args .s .now in
+    let s = c .before .before .before .before .before .before .before .before .before .before .before .before .before .before .before .before .args .s .now in
     let l = c .before .before .before .before .before .before .loop in
     sym (passed-here s _ (l .k) (l .p) (l .inv .0) (rowRule (layoutOf s)) (l .inv .4) (c .before .before .before .before .before .loop-test .taken)
     (failed _ (sym (kept (c .before)) ∙ not-true _ (c .if1 .taken))))
@@ -55,7 +57,7 @@ loop-less c =
 
 loop-again : tie.Need-loop-again Inv-loop μ-loop
 loop-again c =
-    let s = c .before .before .before .before .before .before .before .before .before .before .before .before .before .before .before .before .args .s .now in
+    let s = c .before .before .before .before .before .before .before .before .before .before .before .before .before .before .before .before .before .args .s .now in
     let l = c .before .before .before .before .before .before .before .loop in
     let more = c .before .before .before .before .before .before .loop-test .taken in
     let place = going-place s _ (l .k) (l .p) (l .inv .0) more (c .before .before .before .before .before .row-after .result) (c .before .before .before .before .before .row-after .ensures) in (
@@ -68,7 +70,7 @@ loop-again c =
 
 returns-2 : tie.Need-returns-2 Inv-loop μ-loop
 returns-2 c =
-    let s = c .before .before .before .before .before .before .before .before .before .before .args .s .now in
+    let s = c .before .before .before .before .before .before .before .before .before .before .before .args .s .now in
     let l = c .before .loop in
     sym (passed-end s _ (l .k) (l .p) (l .inv .0) (rowRule (layoutOf s)) (l .inv .4) (c .loop-test .left))
 
@@ -80,9 +82,10 @@ first-bad-row-spec =
     μ-loop
     (λ c. search needs)
     (λ c. search needs)
-    (λ c κs. search needs)
     (λ c. search needs)
     (λ c κs. search needs)
+    (λ c. search needs)
+    (λ c. search needs)
     (λ c κs. search needs)
     (λ c κs. search needs)
     loop-holds
