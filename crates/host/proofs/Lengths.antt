@@ -12,7 +12,7 @@ use Rattle.state.specs.WellFormed.{wellFormed}
 use Rattle.state.specs.declared.kept.Party.{Party}
 use Rattle.state.specs.declared.kept.Session.{Session}
 use Rattle.state.proofs.Filled.{filled-length, fresh-length}
-use Rattle.steps.specs.Step.{Place, announce, publish, write, readTop, readOwn, readPair, fetch, decide, done, placeOf, counted, partyAfter}
+use Rattle.steps.specs.Step.{Place, announce, publish, write, readTop, readOwn, readPair, fetch, decide, done, placeOf, counted, partyActed}
 use Rattle.steps.specs.Step.{marksAfter, publishedAfter, acted, step, stoppedParty, stop}
 use Rattle.steps.specs.Calls.{unlessKept}
 use Rattle.steps.specs.Run.{entry, obeyed}
@@ -53,7 +53,7 @@ module _ (s : Session) (i : ℕ) where
   module _ (f : Full s) where
     full-acted : Full (acted s i)
     full-acted =
-        let after = counted (partyAfter (layout s) (s .proposals) (s .marks) (s .published) i p (placeOf (p .place))) in
+        let after = counted (partyActed (layout s) (s .proposals) (s .marks) (s .published) i p (placeOf (p .place))) in
         record {
           sheetFull = f .sheetFull;
           proposalsFull = f .proposalsFull;

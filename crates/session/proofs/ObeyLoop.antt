@@ -15,7 +15,7 @@ use Rattle.state.specs.Session.{freshParty, noParty, filled, freshSession, part
 use Rattle.state.specs.Words.{PartyRule}
 use Rattle.state.specs.declared.kept.Party.{Party}
 use Rattle.state.specs.declared.kept.Session.{Session}
-use Rattle.steps.specs.Step.{placeOf, counted, partyAfter, marksAfter, publishedAfter, stoppedParty}
+use Rattle.steps.specs.Step.{placeOf, counted, partyActed, marksAfter, publishedAfter, stoppedParty}
 use Rattle.steps.specs.Run.{byteOk, entry, ran}
 use Rattle.steps.specs.Ready.{Ready}
 use Rattle.steps.proofs.Reached.{Reached, here, reached-layout, reached-parties, reached-proposals, reached-well-formed}
@@ -114,7 +114,7 @@ module _ {sheet proposals schedule : List ℕ} {n : ℕ} {kept : List ℕ} {j : 
           }
 
       pub going-act : p .status < 2 → b < 128 → (q : Party) → after ≡ set parties (b % 128 - 1) q
-          → q ≡ counted (partyAfter (layoutOf sheet) kept marks published (b % 128) p (placeOf (p .place)))
+          → q ≡ counted (partyActed (layoutOf sheet) kept marks published (b % 128) p (placeOf (p .place)))
           → ms ≡ marksAfter (layoutOf sheet) (b % 128) p marks (placeOf (p .place))
           → us ≡ publishedAfter (b % 128) p published (placeOf (p .place)) → Going sheet proposals schedule n kept (j + 1) after ms us
       unfolding s

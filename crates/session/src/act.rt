@@ -1,13 +1,13 @@
 // One act of a live party on the lent memory: one function for each place, and the dispatch.
 ghost use mathlib.Core.Path.{_≡_};
 ghost use mathlib.Core.Bool.{cond};
-ghost use Prim.Native.Nat.{ℕ, _≤_, _<_};
-ghost use lib.ListN.{set};
+ghost use Prim.Native.Nat.{ℕ, _-_, _≤_, _<_};
+ghost use lib.ListN.{getD, set};
 ghost use lib.Dec.{T, eqb};
 ghost use Rattle.sheet.specs.Sets.{inSet};
 ghost use Rattle.sheet.specs.Rows.{layoutOf, slot};
 ghost use Rattle.state.specs.Session.{cell};
-ghost use Rattle.steps.specs.Step.{goes, won, nextK, lowersWin, counted, markAt, announced, afterPublish, afterWrite, afterTop, afterOwn, afterPair, afterFetch, decided, placeOf, partyAfter, marksAfter, publishedAfter, stamped, written};
+ghost use Rattle.steps.specs.Step.{goes, won, nextK, lowersWin, counted, markAt, announced, afterPublish, afterWrite, afterTop, afterOwn, afterPair, afterFetch, decided, placeOf, partyActed, marksAfter, publishedAfter, stamped, written};
 ghost use Rattle.steps.specs.Ready.{Ready, ReadyAt};
 use sheet::rows;
 use state::Mark;
@@ -173,7 +173,7 @@ fn read_pair(sheet: &[u8], marks: &[u8; 1024], n: u8, i: u8, p: Party) -> Party
 
 fn fetch(published: &[u8; 256], n: u8, p: Party) -> Party
     requires { ⌜ (p .steps ≤ 1000) × (n ≤ 16) × (p .round ≤ 16) × (p .k ≤ 16) ⌝ }
-    ensures { λ r. ⌜ r ≡ counted (afterFetch n (now (published .entry)) p) ⌝ }
+    ensures { λ r. ⌜ r ≡ counted (afterFetch n (getD (now (published .entry)) (cell (p .round) (p .k)) 0) p) ⌝ }
 {
     let at = state::cell_of(p.round, p.k);
     win(n, p, p.round, published[at])
@@ -181,7 +181,7 @@ fn fetch(published: &[u8; 256], n: u8, p: Party) -> Party
 
 fn decide(proposals: &[u32; 16], p: Party) -> Party
     requires { ⌜ (p .steps ≤ 1000) × (1 ≤ p .candidate) × (p .candidate ≤ 16) ⌝ }
-    ensures { λ r. ⌜ r ≡ counted (decided (now (proposals .entry)) p) ⌝ }
+    ensures { λ r. ⌜ r ≡ counted (decided (getD (now (proposals .entry)) (p .candidate - 1) 0) p) ⌝ }
 {
     let at = p.candidate as usize - 1;
     Party {
@@ -206,7 +206,7 @@ pub(crate) fn act(
     n: u8,
 ) -> Party
     requires { ⌜ Ready (now sheet) (now published) i p n ⌝ }
-    ensures { λ r. ⌜ (r ≡ counted (partyAfter (layoutOf (now (sheet .entry))) (now (proposals .entry)) (now (marks .entry)) (now (published .entry)) i p (placeOf (p .place)))) × ((now (marks .exit) ≡ marksAfter (layoutOf (now (sheet .entry))) i p (now (marks .entry)) (placeOf (p .place))) × (now (published .exit) ≡ publishedAfter i p (now (published .entry)) (placeOf (p .place)))) ⌝ }
+    ensures { λ r. ⌜ (r ≡ counted (partyActed (layoutOf (now (sheet .entry))) (now (proposals .entry)) (now (marks .entry)) (now (published .entry)) i p (placeOf (p .place)))) × ((now (marks .exit) ≡ marksAfter (layoutOf (now (sheet .entry))) i p (now (marks .entry)) (placeOf (p .place))) × (now (published .exit) ≡ publishedAfter i p (now (published .entry)) (placeOf (p .place)))) ⌝ }
 {
     let place = p.place;
     match place {

@@ -7,7 +7,7 @@ ghost use lib.Dec.{eqb};
 ghost use Rattle.sheet.specs.Lists.{within};
 ghost use Rattle.sheet.specs.Rows.{layoutOf};
 ghost use Rattle.state.specs.Session.{ofParts};
-ghost use Rattle.steps.specs.Step.{stoppedParty, counted, placeOf, partyAfter, marksAfter, publishedAfter};
+ghost use Rattle.steps.specs.Step.{stoppedParty, counted, placeOf, partyActed, marksAfter, publishedAfter};
 ghost use Rattle.steps.specs.Ready.{Ready};
 ghost use Rattle.steps.specs.Calls.{toldOf, unlessRefused, stepTold, stepped};
 use crate::act;
@@ -55,7 +55,7 @@ fn act_on(
     n: u8,
 ) -> Party
     requires { ⌜ (len ≤ length (now sheet)) × (Ready (take len (now sheet)) (now published) i p n) ⌝ }
-    ensures { λ r. ⌜ (r ≡ counted (partyAfter (layoutOf (take len (now (sheet .entry)))) (now (proposals .entry)) (now (marks .entry)) (now (published .entry)) i p (placeOf (p .place)))) × ((now (marks .exit) ≡ marksAfter (layoutOf (take len (now (sheet .entry)))) i p (now (marks .entry)) (placeOf (p .place))) × (now (published .exit) ≡ publishedAfter i p (now (published .entry)) (placeOf (p .place)))) ⌝ }
+    ensures { λ r. ⌜ (r ≡ counted (partyActed (layoutOf (take len (now (sheet .entry)))) (now (proposals .entry)) (now (marks .entry)) (now (published .entry)) i p (placeOf (p .place)))) × ((now (marks .exit) ≡ marksAfter (layoutOf (take len (now (sheet .entry)))) i p (now (marks .entry)) (placeOf (p .place))) × (now (published .exit) ≡ publishedAfter i p (now (published .entry)) (placeOf (p .place)))) ⌝ }
 {
     act::act(&sheet[..len], proposals, marks, published, p, i, n)
 }

@@ -13,7 +13,7 @@ use Rattle.sheet.specs.Rows.{Layout, slot, writes}
 use Rattle.state.specs.Session.{layout, noParty, partyOf, cell}
 use Rattle.state.specs.declared.kept.Party.{Party}
 use Rattle.state.specs.declared.kept.Session.{Session}
-use Rattle.steps.specs.Step.{Place, announce, publish, write, readTop, readOwn, readPair, fetch, decide, done, placeOf, counted, partyAfter, won, nextK, lowersWin, goes, decided, marksAfter, publishedAfter, isLive, acted, step, placeActed, stoppedParty, stop}
+use Rattle.steps.specs.Step.{Place, announce, publish, write, readTop, readOwn, readPair, fetch, decide, done, placeOf, counted, seen, partyActed, partyAfter, won, nextK, lowersWin, goes, decided, marksAfter, publishedAfter, isLive, acted, step, placeActed, stoppedParty, stop}
 use Rattle.steps.proofs.Stamps.{getD-passed}
 
 -- ---- the sheet and the proposals
@@ -113,7 +113,7 @@ either-way P false x y u v = v
 
 -- what holds of a party that goes anywhere, of one that decides and of p itself holds of p after its act
 module _ (l : Layout) (proposals marks published : List ℕ) (i : ℕ) (p : Party) (P : Party → Type 0)
-    (going : (place r k c : ℕ) → P (goes p place r k c)) (deciding : P (decided proposals p)) (staying : P p) where
+    (going : (place r k c : ℕ) → P (goes p place r k c)) (deciding : P (decided (getD proposals (p .candidate - 1) 0) p)) (staying : P p) where
   won-any : (r c : ℕ) → P (won (l .parties) p r c)
   unfolding won
   won-any r c = either-way P (ltb r (l .parties)) _ _ (going 1 (r + 1) 0 c) (going 7 0 0 c)
@@ -126,8 +126,8 @@ module _ (l : Layout) (proposals marks published : List ℕ) (i : ℕ) (p : Part
   unfolding lowersWin
   lower-any = either-way P (ltb i (p .round)) _ _ (won-any (p .round) (p .candidate)) (going 6 (p .round) (p .k) (p .candidate))
 
-  pub after-any : (q : Place) → P (partyAfter l proposals marks published i p q)
-  unfolding partyAfter
+  pub after-any : (q : Place) → P (partyActed l proposals marks published i p q)
+  unfolding seen partyAfter
   after-any announce =
       either-way P (eqb (l .parties) 1) _ _ (going 7 0 0 (p .candidate))
       (either-way P (eqb i 1) _ _ (going 1 2 0 (p .candidate)) (going 2 i 0 (p .candidate)))
@@ -147,7 +147,7 @@ module _ (s : Session) (i : ℕ) (fits : i - 1 < length (s .parties)) where
   step-live h =
       let p = partyOf (s .parties) i in
       rw (lt-ltb (p .status) 2 h)
-      (ap (λ (q : Party). q .steps) (getD-set-same (s .parties) (i - 1) (counted (partyAfter (layout s) (s .proposals) (s .marks) (s .published) i p (placeOf (p .place)))) noParty fits)
+      (ap (λ (q : Party). q .steps) (getD-set-same (s .parties) (i - 1) (counted (partyActed (layout s) (s .proposals) (s .marks) (s .published) i p (placeOf (p .place)))) noParty fits)
       ∙ ap (λ (n : ℕ). n + 1)
       (after-any (layout s) (s .proposals) (s .marks) (s .published) i p (λ q. q .steps ≡ p .steps) (λ _ _ _ _. refl) refl refl (placeOf (p .place))))
 
@@ -156,7 +156,7 @@ module _ (s : Session) (i : ℕ) (fits : i - 1 < length (s .parties)) where
   unfolding step
   step-status h =
       let p = partyOf (s .parties) i in
-      let after = partyAfter (layout s) (s .proposals) (s .marks) (s .published) i p (placeOf (p .place)) in
+      let after = partyActed (layout s) (s .proposals) (s .marks) (s .published) i p (placeOf (p .place)) in
       rw (lt-ltb (p .status) 2 h)
       (subst (λ (q : Party). q .status ≤ 2) (sym (getD-set-same (s .parties) (i - 1) (counted after) noParty fits))
       (after-any (layout s) (s .proposals) (s .marks) (s .published) i p (λ q. q .status ≤ 2) (λ _ _ _ _. omega arith) (omega arith) (omega arith) (placeOf (p .place))))

@@ -17,7 +17,7 @@ use Rattle.state.specs.declared.kept.Party.{Party}
 use Rattle.state.specs.declared.kept.Session.{Session}
 use Rattle.state.proofs.Filled.{carried-rules}
 use Rattle.steps.specs.Step.{Place, announce, publish, write, readTop, readOwn, readPair, fetch, decide, done, placeOf}
-use Rattle.steps.specs.Step.{counted, stamped, partyAfter, marksAfter, publishedAfter, acted, step, stoppedParty, stop}
+use Rattle.steps.specs.Step.{counted, stamped, partyActed, marksAfter, publishedAfter, acted, step, stoppedParty, stop}
 use Rattle.steps.proofs.Views.{Still, Move}
 use Rattle.steps.proofs.Invariant.{Invariant, move-keeps, still-keeps}
 use Rattle.steps.proofs.Justified.{Justified}
@@ -168,7 +168,7 @@ module _ {sheet proposals : List ℕ} (rules : Rules6 sheet) (s : Session) (K : 
       }
     where
       new : Party
-      new = counted (partyAfter (layout s) (s .proposals) (s .marks) (s .published) i p (placeOf (p .place)))
+      new = counted (partyActed (layout s) (s .proposals) (s .marks) (s .published) i p (placeOf (p .place)))
 
       o : Orderly (s .proposals) new
       o =

@@ -12,7 +12,7 @@ use Rattle.sheet.specs.Rows.{Layout, slot}
 use Rattle.state.specs.Session.{noParty, partyOf, cell}
 use Rattle.state.specs.declared.kept.Party.{Party}
 use Rattle.steps.specs.Step.{Place, announce, publish, write, readTop, readOwn, readPair, fetch, decide, done}
-use Rattle.steps.specs.Step.{goes, won, nextK, lowersWin, markAt, decided, partyAfter}
+use Rattle.steps.specs.Step.{goes, won, nextK, lowersWin, markAt, decided, seen, partyActed, partyAfter}
 use Rattle.steps.proofs.Limits.{Done}
 use Rattle.steps.proofs.Seen.{standing}
 
@@ -35,7 +35,7 @@ pub record Placed (place r k : ℕ) : Type 0 where
 
 pub record Landing (proposals : List ℕ) (p : Party) (P : Party → Type 0) : Type 0 where
   pub on : (place r k c : ℕ) → Placed place r k → P (goes p place r k c)
-  pub end : P (decided proposals p)
+  pub end : P (decided (getD proposals (p .candidate - 1) 0) p)
 
 module _ {proposals : List ℕ} {p : Party} {P : Party → Type 0} (L : Landing proposals p P) where
   -- places with a round and no scan, and with both
@@ -83,8 +83,8 @@ module _ {proposals : List ℕ} {p : Party} {P : Party → Type 0} (L : Landing 
       (scanning 6 (p .round) (p .k) (p .candidate) (omega arith) (omega arith))
 
   pub lands : (l : Layout) (marks published : List ℕ) (i : ℕ) (at : Place) → (Done (standing at 0 0 0) → ⊥)
-      → P (partyAfter l proposals marks published i p at)
-  unfolding partyAfter
+      → P (partyActed l proposals marks published i p at)
+  unfolding seen partyAfter
   lands l marks published i announce n =
       either
       (eqb (l .parties) 1)

@@ -3,6 +3,7 @@ pub mod Stamps
 pub mod RowOf
 pub mod Replies
 pub mod Refusals
+pub mod Halves
 pub mod Changes
 pub mod Views
 pub mod Holder

@@ -17,7 +17,7 @@ use Rattle.sheet.proofs.Folds.{and-left, and-right, or-cases, lt-or-le}
 use Rattle.state.specs.Session.{noParty, layout, partyOf}
 use Rattle.state.specs.declared.kept.Party.{Party}
 use Rattle.state.specs.declared.kept.Session.{Session}
-use Rattle.steps.specs.Step.{placeOf, counted, partyAfter, marksAfter, publishedAfter, acted, step, stoppedParty, stop}
+use Rattle.steps.specs.Step.{placeOf, counted, partyActed, marksAfter, publishedAfter, acted, step, stoppedParty, stop}
 use Rattle.steps.specs.Run.{byteOk, entry, obeyed}
 use Rattle.steps.proofs.Reached.{Reached, by-step, by-stop}
 
@@ -128,7 +128,7 @@ module _ {s : Session} {parties : List Party} {marks published : List ℕ} (S : 
 
   module _ (after : List Party) (ms us : List ℕ) (q : Party) (put : after ≡ set parties (i - 1) q) where
     pub shows-acted : (l : Layout) (kept : List ℕ) → layout s ≡ l → s .proposals ≡ kept
-        → q ≡ counted (partyAfter l kept marks published i held (placeOf (held .place)))
+        → q ≡ counted (partyActed l kept marks published i held (placeOf (held .place)))
         → ms ≡ marksAfter l i held marks (placeOf (held .place))
         → us ≡ publishedAfter i held published (placeOf (held .place)) → Shows (acted s i) after ms us
     shows-acted l kept el eo eq em eu =
@@ -137,7 +137,7 @@ module _ {s : Session} {parties : List Party} {marks published : List ℕ} (S : 
               ∙ ap (set parties (i - 1)) eq
               ∙ (λ k.
               set (S .ofParties k) (i - 1)
-              (counted (partyAfter (sym el k) (sym eo k) (S .ofMarks k) (S .ofPublished k) i (now k) (placeOf (now k .place)))));
+              (counted (partyActed (sym el k) (sym eo k) (S .ofMarks k) (S .ofPublished k) i (now k) (placeOf (now k .place)))));
           ofMarks = em ∙ (λ k. marksAfter (sym el k) i (now k) (S .ofMarks k) (placeOf (now k .place)));
           ofPublished = eu ∙ (λ k. publishedAfter i (now k) (S .ofPublished k) (placeOf (now k .place)));
         }

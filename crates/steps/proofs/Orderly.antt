@@ -11,7 +11,7 @@ use lib.ListN.{getD}
 use Rattle.sheet.specs.Rows.{Layout}
 use Rattle.state.specs.Session.{freshParty}
 use Rattle.state.specs.declared.kept.Party.{Party}
-use Rattle.steps.specs.Step.{Place, placeOf, counted, partyAfter, stoppedParty}
+use Rattle.steps.specs.Step.{Place, placeOf, counted, partyActed, stoppedParty}
 use Rattle.steps.proofs.Limits.{Done}
 use Rattle.steps.proofs.Seen.{standing}
 use Rattle.steps.proofs.Landing.{Placed, Landing, lands}
@@ -91,7 +91,7 @@ module _ (proposals : List ℕ) (p : Party) (none : p .decision ≡ 0) where
       rounds place r k h (inr l) = h .noRound l
 
   pub act-orderly : (l : Layout) (marks published : List ℕ) (i : ℕ) (at : Place) → (Done (standing at 0 0 0) → ⊥)
-      → Orderly proposals (counted (partyAfter l proposals marks published i p at))
+      → Orderly proposals (counted (partyActed l proposals marks published i p at))
   act-orderly l marks published i at d = lands landing l marks published i at d
 
 -- ---- a stop

@@ -15,7 +15,7 @@ use Rattle.state.specs.Session.{carried, layout, partyOf, cell}
 use Rattle.state.specs.declared.kept.Party.{Party}
 use Rattle.state.specs.declared.kept.Session.{Session}
 use Rattle.steps.specs.Step.{Place, announce, publish, write, readTop, readOwn, readPair, fetch, decide, done, placeOf}
-use Rattle.steps.specs.Step.{goes, nextK, lowersWin, counted, markAt, partyAfter, marksAfter, publishedAfter}
+use Rattle.steps.specs.Step.{goes, nextK, lowersWin, counted, markAt, seen, partyActed, partyAfter, marksAfter, publishedAfter}
 use Rattle.steps.proofs.Views.{Standing, at-announce, at-publish, at-write, at-top, at-own, at-pair, at-fetch, Here, Same}
 use Rattle.steps.proofs.Views.{Won, Move}
 use Rattle.steps.proofs.Views.{Act, announces-alone, announces-first, announces-top, publishes, lower-writes, top-writes}
@@ -40,7 +40,7 @@ module _ (s : Session) (rules : Rules6 (carried s)) (marked : length (s .marks) 
   p = partyOf (s .parties) i
 
   abbrev next : Place → Party
-  next at = partyAfter (layout s) (s .proposals) (s .marks) (s .published) i p at
+  next at = partyActed (layout s) (s .proposals) (s .marks) (s .published) i p at
 
   -- the session that the act of a place leaves
   abbrev pub after : Place → Session
@@ -70,7 +70,7 @@ module _ (s : Session) (rules : Rules6 (carried s)) (marked : length (s .marks) 
       }
 
   announce-acts : Acts announce
-  unfolding partyAfter marksAfter publishedAfter
+  unfolding seen partyAfter marksAfter publishedAfter
   announce-acts = by (eqb n 1) refl (eqb i 1) refl
     where
       same : Same (view s) (view (after announce))
@@ -83,7 +83,7 @@ module _ (s : Session) (rules : Rules6 (carried s)) (marked : length (s .marks) 
       by false e false f = announces-top (omega (arith, eqb-false i 1 f)) same
 
   publish-acts : placeOf (p .place) ≡ publish → Acts publish
-  unfolding partyAfter marksAfter publishedAfter
+  unfolding seen partyAfter marksAfter publishedAfter
   publish-acts e =
       publishes (record {
         own = λ r k. refl;
@@ -109,7 +109,7 @@ module _ (s : Session) (rules : Rules6 (carried s)) (marked : length (s .marks) 
       apart r k v z = (omega (arith, few, o, v, z), omega (arith, few, o, v, z))
 
   write-acts : placeOf (p .place) ≡ write → Acts write
-  unfolding partyAfter marksAfter publishedAfter
+  unfolding seen partyAfter marksAfter publishedAfter
   write-acts e = by (eqb i (p .round)) refl
     where
       o : Justified n (view s) i (at-write (p .round) (p .candidate))
@@ -131,7 +131,7 @@ module _ (s : Session) (rules : Rules6 (carried s)) (marked : length (s .marks) 
   own-read r k w = where-yes (row? n r k) _ w
 
   top-acts : placeOf (p .place) ≡ readTop → Acts readTop
-  unfolding partyAfter marksAfter publishedAfter
+  unfolding seen partyAfter marksAfter publishedAfter
   top-acts e = by (eqb mark 0) refl
     where
       o : Justified n (view s) i (at-top (p .round) (p .candidate))
@@ -152,7 +152,7 @@ module _ (s : Session) (rules : Rules6 (carried s)) (marked : length (s .marks) 
       by false g = top-marked {r = p .round} (omega (arith, seen, eqb-false mark 0 g)) same
 
   own-acts : placeOf (p .place) ≡ readOwn → Acts readOwn
-  unfolding partyAfter marksAfter publishedAfter
+  unfolding seen partyAfter marksAfter publishedAfter
   own-acts e = by (eqb mark 0) refl
     where
       o : Justified n (view s) i (at-own (p .round) (p .k) (p .candidate))
@@ -173,7 +173,7 @@ module _ (s : Session) (rules : Rules6 (carried s)) (marked : length (s .marks) 
       by false g = own-marked {r = p .round} {k = p .k} (omega (arith, seen, eqb-false mark 0 g)) same
 
   pair-acts : placeOf (p .place) ≡ readPair → Acts readPair
-  unfolding partyAfter marksAfter publishedAfter
+  unfolding seen partyAfter marksAfter publishedAfter
   pair-acts e = by (eqb mark 2) refl
     where
       o : Justified n (view s) i (at-pair (p .round) (p .k) (p .candidate))
@@ -198,7 +198,7 @@ module _ (s : Session) (rules : Rules6 (carried s)) (marked : length (s .marks) 
       by false g = pair-else (λ z. eqb-false mark 2 g (sym seen ∙ z)) (next-seen n p (o .fits) (o .scan .most)) same
 
   fetch-acts : placeOf (p .place) ≡ fetch → Acts fetch
-  unfolding partyAfter marksAfter publishedAfter
+  unfolding seen partyAfter marksAfter publishedAfter
   fetch-acts e = fetches goes-on (unchanged fetch refl refl)
     where
       o : Justified n (view s) i (at-fetch (p .round) (p .k) (p .candidate))
@@ -215,7 +215,7 @@ module _ (s : Session) (rules : Rules6 (carried s)) (marked : length (s .marks) 
       goes-on = rw seen (won-seen n p (p .round) (getD (s .published) (cell (p .round) (p .k)) 0) (o .fits))
 
   decide-acts : Acts decide
-  unfolding partyAfter marksAfter publishedAfter
+  unfolding seen partyAfter marksAfter publishedAfter
   decide-acts = decides (unchanged decide refl refl)
 
   acts : (at : Place) → placeOf (p .place) ≡ at → (Done (standing at 0 0 0) → ⊥) → Acts at

@@ -26,6 +26,18 @@ placeOf (suc (suc (suc (suc (suc (suc zero)))))) = fetch
 placeOf (suc (suc (suc (suc (suc (suc (suc zero))))))) = decide
 placeOf (suc (suc (suc (suc (suc (suc (suc (suc n)))))))) = done
 
+-- the number of a place
+abbrev pub placeNumber : Place → ℕ
+placeNumber announce = 0
+placeNumber publish = 1
+placeNumber write = 2
+placeNumber readTop = 3
+placeNumber readOwn = 4
+placeNumber readPair = 5
+placeNumber fetch = 6
+placeNumber decide = 7
+placeNumber done = 8
+
 -- ---- where a party goes
 
 -- running, at a place, in a round, at a scan number, with a candidate
@@ -91,35 +103,45 @@ abbrev pub afterPair : ℕ → ℕ → ℕ → Party → Party
 afterPair n i mark p = cond (eqb mark 2) (lowersWin n i p) (nextK n p)
 
 -- 6. Fetch: the candidate becomes the one published in this round by k
-abbrev pub afterFetch : ℕ → List ℕ → Party → Party
-afterFetch n published p = won n p (p .round) (getD published (cell (p .round) (p .k)) 0)
+abbrev pub afterFetch : ℕ → ℕ → Party → Party
+afterFetch n candidate p = won n p (p .round) candidate
 
 -- 7. Read the candidate's proposal and decide it
-abbrev pub decided : List ℕ → Party → Party
-decided proposals p =
-    record {
-      status = 2;
-      place = 8;
-      round = 0;
-      k = 0;
-      candidate = p .candidate;
-      steps = p .steps;
-      decision = getD proposals (p .candidate - 1) 0;
-    }
+abbrev pub decided : ℕ → Party → Party
+decided proposal p =
+    record { status = 2; place = 8; round = 0; k = 0; candidate = p .candidate; steps = p .steps; decision = proposal }
 
--- what the act of party i, which is p, makes of its own entries
-unfoldable pub partyAfter : Layout → List ℕ → List ℕ → List ℕ → ℕ → Party → Place → Party
-partyAfter l proposals marks published i p announce = announced (l .parties) i p
-partyAfter l proposals marks published i p publish = afterPublish p
-partyAfter l proposals marks published i p write = afterWrite i p
-partyAfter l proposals marks published i p readTop =
-    afterTop (l .parties) i (markAt marks (l .row (slot (p .round) (p .round)) .own)) p
-partyAfter l proposals marks published i p readOwn = afterOwn (l .parties) (markAt marks (l .row (slot (p .round) (p .k)) .own)) p
-partyAfter l proposals marks published i p readPair =
-    afterPair (l .parties) i (markAt marks (l .row (slot (p .round) (p .k)) .pair)) p
-partyAfter l proposals marks published i p fetch = afterFetch (l .parties) published p
-partyAfter l proposals marks published i p decide = decided proposals p
-partyAfter l proposals marks published i p done = p
+-- ---- the two halves of an act: what it sees, and what it makes of the party from that alone
+
+-- the one mark, published candidate or proposal that the act of p reads; 0 where it reads nothing
+unfoldable pub seen : Layout → List ℕ → List ℕ → List ℕ → Party → Place → ℕ
+seen l proposals marks published p announce = 0
+seen l proposals marks published p publish = 0
+seen l proposals marks published p write = 0
+seen l proposals marks published p readTop = markAt marks (l .row (slot (p .round) (p .round)) .own)
+seen l proposals marks published p readOwn = markAt marks (l .row (slot (p .round) (p .k)) .own)
+seen l proposals marks published p readPair = markAt marks (l .row (slot (p .round) (p .k)) .pair)
+seen l proposals marks published p fetch = getD published (cell (p .round) (p .k)) 0
+seen l proposals marks published p decide = getD proposals (p .candidate - 1) 0
+seen l proposals marks published p done = 0
+
+-- what the act of party i of n, which is p, makes of its own entries, from the number that it sees
+unfoldable pub partyAfter : ℕ → ℕ → ℕ → Party → Place → Party
+partyAfter n i x p announce = announced n i p
+partyAfter n i x p publish = afterPublish p
+partyAfter n i x p write = afterWrite i p
+partyAfter n i x p readTop = afterTop n i x p
+partyAfter n i x p readOwn = afterOwn n x p
+partyAfter n i x p readPair = afterPair n i x p
+partyAfter n i x p fetch = afterFetch n x p
+partyAfter n i x p decide = decided x p
+partyAfter n i x p done = p
+
+-- both together
+abbrev pub partyActed : Layout → List ℕ → List ℕ → List ℕ → ℕ → Party → Place → Party
+partyActed l proposals marks published i p at = partyAfter (l .parties) i (seen l proposals marks published p at) p at
+
+-- ---- what an act stores
 
 -- one mark in all units that a test picks, from unit u on
 abbrev pub stamped : (ℕ → Bool) → ℕ → ℕ → List ℕ → List ℕ
@@ -132,27 +154,11 @@ written l i p marks = stamped (writes (l .row (slot (p .round) i))) (cond (eqb i
 
 -- what an act makes of the marks: only place 2 writes
 unfoldable pub marksAfter : Layout → ℕ → Party → List ℕ → Place → List ℕ
-marksAfter l i p marks announce = marks
-marksAfter l i p marks publish = marks
-marksAfter l i p marks write = written l i p marks
-marksAfter l i p marks readTop = marks
-marksAfter l i p marks readOwn = marks
-marksAfter l i p marks readPair = marks
-marksAfter l i p marks fetch = marks
-marksAfter l i p marks decide = marks
-marksAfter l i p marks done = marks
+marksAfter l i p marks at = cond (eqb (placeNumber at) 2) (written l i p marks) marks
 
 -- and of the published candidates: only place 1 stores one
 unfoldable pub publishedAfter : ℕ → Party → List ℕ → Place → List ℕ
-publishedAfter i p published announce = published
-publishedAfter i p published publish = set published (cell (p .round) i) (p .candidate)
-publishedAfter i p published write = published
-publishedAfter i p published readTop = published
-publishedAfter i p published readOwn = published
-publishedAfter i p published readPair = published
-publishedAfter i p published fetch = published
-publishedAfter i p published decide = published
-publishedAfter i p published done = published
+publishedAfter i p published at = cond (eqb (placeNumber at) 1) (set published (cell (p .round) i) (p .candidate)) published
 
 -- ---- a step, a stop, and who is live
 
@@ -169,7 +175,7 @@ acted s i =
       proposals = s .proposals;
       marks = marksAfter (layout s) i p (s .marks) at;
       published = publishedAfter i p (s .published) at;
-      parties = set (s .parties) (i - 1) (counted (partyAfter (layout s) (s .proposals) (s .marks) (s .published) i p at));
+      parties = set (s .parties) (i - 1) (counted (partyActed (layout s) (s .proposals) (s .marks) (s .published) i p at));
     }
 
 -- a party that has decided or stopped changes nothing

@@ -7,7 +7,7 @@ use native.Mathlib.Nat.{le-antisymm}
 use native.Mathlib.Omega.{arith}
 use borrow.Author.Needs.{needs}
 use Rattle.state.specs.declared.kept.Party.{Party}
-use Rattle.steps.specs.Step.{placeOf, partyAfter, marksAfter, publishedAfter}
+use Rattle.steps.specs.Step.{placeOf, seen, partyAfter, marksAfter, publishedAfter}
 use Rattle.steps.specs.Ready.{Ready, ReadyAt}
 use Rattle.session.proofs.act.act.Statement.{statement}
 use Rattle.session.proofs.act.act.Tie as tie
@@ -65,45 +65,45 @@ fetch-requires c κs =
     omega arith
 
 returns : tie.Need-returns
-unfolding partyAfter marksAfter publishedAfter
+unfolding seen partyAfter marksAfter publishedAfter
 returns c =
     let size = c .before .before .before .pre .parties in
     rw (ap placeOf (c .before .match .keys1), ← size) (c .announce .ensures, (refl, refl))
 
 returns-2 : tie.Need-returns-2
-unfolding partyAfter marksAfter publishedAfter
+unfolding seen partyAfter marksAfter publishedAfter
 returns-2 c = rw (ap placeOf (c .before .before .match .keys2)) (c .publish .ensures .0, (refl, c .publish .ensures .1))
 
 returns-3 : tie.Need-returns-3
-unfolding partyAfter marksAfter publishedAfter
+unfolding seen partyAfter marksAfter publishedAfter
 returns-3 c = rw (ap placeOf (c .before .before .match .keys3)) (c .write .ensures .0, (c .write .ensures .1, refl))
 
 returns-4 : tie.Need-returns-4
-unfolding partyAfter marksAfter publishedAfter
+unfolding seen partyAfter marksAfter publishedAfter
 returns-4 c =
     let size = c .before .before .before .before .pre .parties in
     rw (ap placeOf (c .before .before .match .keys4), ← size) (c .read-top .ensures, (refl, refl))
 
 returns-5 : tie.Need-returns-5
-unfolding partyAfter marksAfter publishedAfter
+unfolding seen partyAfter marksAfter publishedAfter
 returns-5 c =
     let size = c .before .before .before .before .pre .parties in
     rw (ap placeOf (c .before .before .match .keys5), ← size) (c .read-own .ensures, (refl, refl))
 
 returns-6 : tie.Need-returns-6
-unfolding partyAfter marksAfter publishedAfter
+unfolding seen partyAfter marksAfter publishedAfter
 returns-6 c =
     let size = c .before .before .before .before .pre .parties in
     rw (ap placeOf (c .before .before .match .keys6), ← size) (c .read-pair .ensures, (refl, refl))
 
 returns-7 : tie.Need-returns-7
-unfolding partyAfter marksAfter publishedAfter
+unfolding seen partyAfter marksAfter publishedAfter
 returns-7 c =
     let size = c .before .before .before .before .pre .parties in
     rw (ap placeOf (c .before .before .match .keys7), ← size) (c .fetch .ensures, (refl, refl))
 
 returns-8 : tie.Need-returns-8
-unfolding partyAfter marksAfter publishedAfter
+unfolding seen partyAfter marksAfter publishedAfter
 returns-8 c = rw (ap placeOf (c .before .match .keys8)) (c .decide .ensures, (refl, refl))
 
 -- a number from b on that is none of four is past them

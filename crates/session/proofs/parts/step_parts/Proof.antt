@@ -15,7 +15,7 @@ use Rattle.state.specs.declared.kept.Session.{Session}
 use Rattle.state.proofs.Carried.{front-fits, front-carried}
 use Rattle.state.proofs.FormWords.{well-formed-says}
 use Rattle.answers.proofs.Verdicts.{refuses}
-use Rattle.steps.specs.Step.{Place, isLive, placeOf, counted, partyAfter, marksAfter, publishedAfter, acted, step, placeActed}
+use Rattle.steps.specs.Step.{Place, isLive, placeOf, counted, partyActed, marksAfter, publishedAfter, acted, step, placeActed}
 use Rattle.steps.specs.Ready.{Ready}
 use Rattle.steps.specs.Calls.{told, toldOf}
 use Rattle.steps.proofs.Refusals.{Past, past, refused, answered}
@@ -46,7 +46,7 @@ module _ (s : Session) (i : ℕ) where
   at = placeOf (p .place)
 
   abbrev own : List ℕ → Party
-  own l = counted (partyAfter (layoutOf l) (s .proposals) (s .marks) (s .published) i p at)
+  own l = counted (partyActed (layoutOf l) (s .proposals) (s .marks) (s .published) i p at)
 
   puts : (l marks published : List ℕ) (q : Party) → l ≡ carried s
       → (q ≡ own l) × ((marks ≡ marksAfter (layoutOf l) i p (s .marks) at) × (published ≡ publishedAfter i p (s .published) at))
