@@ -13,7 +13,7 @@ use Rattle.state.specs.declared.kept.Party.{Party}
 use Rattle.state.specs.declared.kept.Session.{Session}
 use Rattle.state.proofs.Filled.{filled-front}
 use Rattle.steps.specs.Step.{placeOf}
-use Rattle.steps.specs.Reach.{Agreed}
+use Rattle.steps.specs.Reach.{Agreed, Lasting}
 use Rattle.steps.proofs.Holder.{Announced, Holder, holder-one, holder-least}
 use Rattle.steps.proofs.Invariant.{holder-valid}
 use Rattle.steps.proofs.Seen.{standing, standsAt, view}
@@ -96,6 +96,12 @@ module _ {sheet proposals : List ℕ} (s : Session) (K : Kept sheet proposals s)
 
 -- ---- what has been decided stays
 
+-- a way, and another one from where it ends
+leads-on : {n : ℕ} {s t u : Session} → Leads n s t → Leads n t u → Leads n s u
+leads-on R here = R
+leads-on R (by-step i least most S) = by-step i least most (leads-on R S)
+leads-on R (by-stop i least most S) = by-stop i least most (leads-on R S)
+
 -- a party that has decided never changes
 pub decided-stays : {n : ℕ} {s t : Session} → Leads n s t → (i : ℕ) → 1 ≤ i → partyOf (s .parties) i .status ≡ 2
     → partyOf (t .parties) i ≡ partyOf (s .parties) i
@@ -125,3 +131,40 @@ module _ (sheet proposals : List ℕ) (rules : Rules6 sheet) (count : length pro
 
       some : 1 ≤ layout s .parties
       some = omega (arith, same, rules .before .before .before .header .partiesLeast)
+
+  -- the party whose proposal is decided is the same one later, and who has decided has decided the same
+  pub lasting : {s t : Session} → Reached sheet proposals s → Leads parties s t → Lasting parties proposals s t
+  lasting {s} {t} R L =
+      record {
+        holder = h;
+        before =
+            record {
+              least = A .least;
+              most = A .most;
+              candidate = λ i l m e. sym (ap (λ (p : Party). p .candidate) (kept i l e)) ∙ A .candidate i l m (decided i l e);
+              decision = λ i l m e. sym (ap (λ (p : Party). p .decision) (kept i l e)) ∙ A .decision i l m (decided i l e);
+              announced = λ i l m e. subst (λ (k : ℕ). partyOf (s .parties) k .place ≡ 0 → ⊥) (one i l m e) (B .announced i l m e);
+            };
+        after = A;
+        stays = λ i l m e. decided i l e;
+        same = λ i l m e. ap (λ (p : Party). p .decision) (kept i l e);
+      }
+    where
+      h : ℕ
+      h = agreement (leads-on R L) .0
+
+      A : Agreed parties proposals t h
+      A = agreement (leads-on R L) .1
+
+      B : Agreed parties proposals s (agreement R .0)
+      B = agreement R .1
+
+      kept : (i : ℕ) → 1 ≤ i → partyOf (s .parties) i .status ≡ 2 → partyOf (t .parties) i ≡ partyOf (s .parties) i
+      kept i l e = decided-stays L i l e
+
+      decided : (i : ℕ) → 1 ≤ i → partyOf (s .parties) i .status ≡ 2 → partyOf (t .parties) i .status ≡ 2
+      decided i l e = ap (λ (p : Party). p .status) (kept i l e) ∙ e
+
+      one : (i : ℕ) → 1 ≤ i → i ≤ parties → partyOf (s .parties) i .status ≡ 2 → agreement R .0 ≡ h
+      one i l m e =
+          sym (B .candidate i l m e) ∙ sym (ap (λ (p : Party). p .candidate) (kept i l e)) ∙ A .candidate i l m (decided i l e)

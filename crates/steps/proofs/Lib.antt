@@ -27,6 +27,7 @@ pub mod StepLimits
 pub mod Given
 pub mod Schedules
 pub mod Obeying
+pub mod Moves
 pub mod RunAnswers
 pub mod RunCalls
 pub mod Tally

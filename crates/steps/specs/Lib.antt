@@ -1,5 +1,6 @@
 -- Document 01's steps, calls and runs, and what they reach: read from the top. `Ready` is what the acts ask of their caller.
 pub mod Step
+pub mod Moves
 pub mod Calls
 pub mod Run
 pub mod Trace

@@ -1,7 +1,7 @@
 -- Sessions that steps and stops reach from an opening, and what demand 3 says of them.
 use Prim.Native.Nat.{ℕ, _+_, _-_, _*_, _≤_}
 use mathlib.Core.Path.{_≡_}
-use mathlib.Core.List.{List}
+use mathlib.Core.List.{List, [], _∷_, _++_}
 use mathlib.Core.Bool.{cond}
 use lib.ListN.{getD}
 use lib.Dec.{eqb}
@@ -9,12 +9,19 @@ use Rattle.sheet.specs.Rows.{partiesOf}
 use Rattle.state.specs.Session.{freshSession, partyOf}
 use Rattle.state.specs.declared.kept.Session.{Session}
 use Rattle.steps.specs.Step.{step, stop}
+use Rattle.steps.specs.Moves.{Move, stepOf, stopOf}
 
 -- any sequence of steps and stops of parties 1 to n leads from one session to another
 pub data Leads (n : ℕ) (s : Session) : Session → Type 0 where
   here : Leads n s s
   by-step : {t : Session} (i : ℕ) → 1 ≤ i → i ≤ n → Leads n s t → Leads n s (step t i)
   by-stop : {t : Session} (i : ℕ) → 1 ≤ i → i ≤ n → Leads n s t → Leads n s (stop t i)
+
+-- the steps and stops on the way, in their order
+unfoldable pub movesOn : {n : ℕ} {s t : Session} → Leads n s t → List Move
+movesOn here = []
+movesOn (by-step i least most R) = movesOn R ++ (stepOf i ∷ [])
+movesOn (by-stop i least most R) = movesOn R ++ (stopOf i ∷ [])
 
 -- reached from the fresh session with a sheet and proposals
 abbrev pub Reached : List ℕ → List ℕ → Session → Type 0
@@ -29,12 +36,17 @@ pub record Agreed (n : ℕ) (proposals : List ℕ) (s : Session) (h : ℕ) : Typ
       (i : ℕ) → 1 ≤ i → i ≤ n → partyOf (s .parties) i .status ≡ 2 → partyOf (s .parties) i .decision ≡ getD proposals (h - 1) 0
   pub announced : (i : ℕ) → 1 ≤ i → i ≤ n → partyOf (s .parties) i .status ≡ 2 → partyOf (s .parties) h .place ≡ 0 → ⊥
 
+-- what was decided stays: from a session to one that comes later
+pub record Lasting (n : ℕ) (proposals : List ℕ) (s t : Session) : Type 0 where
+  -- the party whose proposal is decided is the same one at both moments
+  pub holder : ℕ
+  pub before : Agreed n proposals s holder
+  pub after : Agreed n proposals t holder
+  -- who has decided has decided later too, with the same decision
+  pub stays : (i : ℕ) → 1 ≤ i → i ≤ n → partyOf (s .parties) i .status ≡ 2 → partyOf (t .parties) i .status ≡ 2
+  pub same :
+      (i : ℕ) → 1 ≤ i → i ≤ n → partyOf (s .parties) i .status ≡ 2 → partyOf (t .parties) i .decision ≡ partyOf (s .parties) i .decision
+
 -- the most own steps of party i of n: (n + 1)² − 2 for party 1, (n + 1)² − i² + 1 for the others
 abbrev pub stepLimit : ℕ → ℕ → ℕ
 stepLimit n i = cond (eqb i 1) ((n + 1) * (n + 1) - 2) ((n + 1) * (n + 1) - i * i + 1)
-
--- how many steps party j was given on the way
-unfoldable pub given : {n : ℕ} {s t : Session} → ℕ → Leads n s t → ℕ
-given j here = 0
-given j (by-step i least most R) = given j R + cond (eqb j i) 1 0
-given j (by-stop i least most R) = given j R

@@ -1,6 +1,6 @@
 -- The run: what a schedule does from a fresh session, the call's answer, and the output afterwards.
 use Prim.Native.Nat.{ℕ, _+_, _-_}
-use mathlib.Core.List.{List, [], _∷_, _++_}
+use mathlib.Core.List.{List, [], _∷_, _++_, map}
 use mathlib.Core.Bool.{Bool, _||_, cond}
 use lib.ListN.{length, drop}
 use lib.Dec.{ltb, eqb}
@@ -12,12 +12,19 @@ use Rattle.state.specs.Opening.{openAnswer}
 use Rattle.state.specs.declared.kept.Session.{Session}
 use Rattle.record.specs.Record.{recordLength, recordBytes}
 use Rattle.steps.specs.Step.{step, stop}
+use Rattle.steps.specs.Moves.{Move, stepOf, stopOf}
 
 -- ---- the schedule
 
 -- byte i (1 to N) is a step of party i, byte 128 + i its stop
 abbrev pub byteOk : ℕ → ℕ → Bool
 byteOk n b = within 1 n b || within 129 (128 + n) b
+
+abbrev pub moveOf : ℕ → Move
+moveOf b = cond (ltb b 128) (stepOf b) (stopOf (b - 128))
+
+abbrev pub movesIn : List ℕ → List Move
+movesIn schedule = map moveOf schedule
 
 abbrev pub entry : Session → ℕ → Session
 entry s b = cond (ltb b 128) (step s b) (stop s (b - 128))

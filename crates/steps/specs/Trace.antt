@@ -1,5 +1,5 @@
 -- A schedule seen from outside: the calls that it stands for, what they tell, and how often a party acts.
-use Prim.Native.Nat.{ℕ, suc, _+_, _-_}
+use Prim.Native.Nat.{ℕ, suc, _-_}
 use mathlib.Core.List.{List, [], _∷_}
 use mathlib.Core.Bool.{Bool, not, _&&_, cond}
 use lib.Dec.{ltb, eqb}
@@ -38,7 +38,8 @@ abbrev pub acts : Session → List ℕ → ℕ → ℕ
 acts s [] i = 0
 acts s (b ∷ bs) i = let r = acts (entry s b) bs i in cond (actsAt s b i) (suc r) r
 
--- how many step entries of party i stand before any stop of its own
-abbrev pub stepsBefore : ℕ → List ℕ → ℕ
-stepsBefore i [] = 0
-stepsBefore i (b ∷ bs) = let r = stepsBefore i bs in cond (eqb b (128 + i)) 0 (cond (eqb b i) (suc r) r)
+-- how many of the calls are steps of party i that told something other than 8
+abbrev pub actsTold : ℕ → List ℕ → List Told → ℕ
+actsTold i [] ts = 0
+actsTold i (b ∷ bs) [] = 0
+actsTold i (b ∷ bs) (t ∷ ts) = let r = actsTold i bs ts in cond (eqb b i && not (eqb (t .value) 8)) (suc r) r
