@@ -1,42 +1,32 @@
 -- What is built keeps every rule of document 01, kind by kind; so each row's numbers fit their bytes.
 use Prim.Native.Nat.{ℕ, _*_, _-_, _^_, _≤_, _<_}
-use mathlib.Core.Path.{_≡_, refl}
-use mathlib.Core.Logic.{_⊎_, inl, inr, ⊎-elim}
+use mathlib.Core.Logic.{⊎-elim}
 use native.Mathlib.Nat.{eq-or-lt-of-le}
 use native.Mathlib.Omega.{arith}
-use lib.Dec.{T}
 use Rattle.sheet.specs.Rows.{Layout}
 use Rattle.sheet.specs.Words.{IsSlot}
 use Rattle.rules.specs.Words.{RowRule, WriterRule, HeaderRule, Every}
 use Rattle.sheet.specs.declared.rows.Row.{Row}
 use Rattle.sheet.specs.declared.rows.Slot.{Slot}
-use Rattle.builder.specs.Build.{given, builtUnits, built}
-use Rattle.builder.specs.Given.{Given}
-use Rattle.sheet.proofs.Folds.{lt-or-le}
+use Rattle.builder.specs.Build.{builtUnits, built}
+use Rattle.builder.specs.Given.{Given1, Given}
 use Rattle.rules.proofs.RuleWords.{mask-64}
-use Rattle.builder.proofs.Givens.{given-ranges, word-room}
 use Rattle.builder.proofs.Kind1.{rows1, writers1, units1}
 use Rattle.builder.proofs.Kind2.{rows2, writers2, units2}
 
 -- ---- kind by kind
 
-by-kind : (P : ℕ → Type 0) (kind bound n : ℕ) → Given kind bound n → (T (given 1 bound n) → P 1) → (2 * n - 1 ≤ bound → P 2) → P kind
-by-kind P kind bound n g one two = ⊎-elim first second (lt-or-le kind 2)
-  where
-    first : kind < 2 → P kind
-    first l = let r = given-ranges g in let e : kind ≡ 1 = omega arith in rw e (one (rw e at (g .sheet)))
-
-    second : 2 ≤ kind → P kind
-    second l = let r = given-ranges g in let e : kind ≡ 2 = omega arith in rw e (two (word-room g (λ z. omega arith)))
+by-kind : (P : ℕ → Type 0) (kind bound n : ℕ) → Given kind bound n → (Given1 bound n → P 1) → (2 * n - 1 ≤ bound → P 2) → P kind
+by-kind P kind bound n g one two = ⊎-elim (λ e. rw e (one (g .one e))) (λ e. rw e (two (g .two e))) (g .numbers .oneOrTwo)
 
 pub built-header : (kind bound n : ℕ) → Given kind bound n → HeaderRule (built kind bound n)
 built-header kind bound n g =
-    let r = given-ranges g in
+    let r = g .numbers in
     let units =
     by-kind (λ k. (1 ≤ builtUnits k bound n) × (builtUnits k bound n ≤ 1024)) kind bound n g (units1 bound n)
     (λ wide. units2 bound n wide (r .partiesLeast) (r .partiesMost) (r .boundMost)) in
     record {
-      kind = by-kind (λ k. (k ≡ 1) ⊎ (k ≡ 2)) kind bound n g (λ _. inl refl) (λ _. inr refl);
+      kind = r .oneOrTwo;
       boundLeast = r .boundLeast;
       boundMost = r .boundMost;
       partiesLeast = r .partiesLeast;
@@ -47,11 +37,11 @@ built-header kind bound n g =
 
 pub built-rows : (kind bound n : ℕ) → Given kind bound n → Every RowRule (built kind bound n)
 built-rows kind bound n g =
-    by-kind (λ k. Every RowRule (built k bound n)) kind bound n g (rows1 bound n (given-ranges g .boundLeast)) (rows2 bound n)
+    by-kind (λ k. Every RowRule (built k bound n)) kind bound n g (rows1 bound n (g .numbers .boundLeast)) (rows2 bound n)
 
 pub built-writers : (kind bound n : ℕ) → Given kind bound n → Every WriterRule (built kind bound n)
 built-writers kind bound n g =
-    by-kind (λ k. HeaderRule (built k bound n) → Every WriterRule (built k bound n)) kind bound n g (λ t header. writers1 bound n header t)
+    by-kind (λ k. HeaderRule (built k bound n) → Every WriterRule (built k bound n)) kind bound n g (λ one header. writers1 bound n header one)
     (λ wide _. writers2 bound n wide) (built-header kind bound n g)
 
 -- ---- the bytes of a row

@@ -7,4 +7,5 @@ pub mod Built
 pub mod Written
 pub mod ReadBack
 pub mod Keeps
+pub mod Says
 pub mod Theorems

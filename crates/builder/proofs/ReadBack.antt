@@ -17,7 +17,6 @@ use Rattle.builder.specs.Given.{Given}
 use Rattle.sheet.proofs.Flat.{length-flat}
 use Rattle.sheet.proofs.Slots.{length-slots, count-most, slot-row, slots-step}
 use Rattle.sheet.proofs.Numbers.{num-bytes}
-use Rattle.builder.proofs.Givens.{given-ranges}
 use Rattle.builder.proofs.Built.{Fits, built-fits, built-header}
 
 -- ---- a row
@@ -45,7 +44,7 @@ module _ (kind bound n : ℕ) (g : Given kind bound n) where
   pub length-sheet : length (builtSheet kind bound n) ≡ sheetLength n
   length-sheet =
       let rows = length-flat (λ p. rowBytes (builtRow kind bound p)) 14 (λ p. refl) (slots n) in
-      let count = length-slots n (given-ranges g .partiesLeast) in
+      let count = length-slots n (g .numbers .partiesLeast) in
       omega arith
 
   pub reads-fields :
@@ -56,7 +55,7 @@ module _ (kind bound n : ℕ) (g : Given kind bound n) where
   reads-fields = (refl, refl, refl, refl)
 
   pub reads-length : num (builtSheet kind bound n) 0 2 ≡ sheetLength n
-  reads-length = num-bytes 2 (sheetLength n) (let c = count-most n (given-ranges g .partiesMost) in omega arith)
+  reads-length = num-bytes 2 (sheetLength n) (let c = count-most n (g .numbers .partiesMost) in omega arith)
 
   pub reads-units : layoutOf (builtSheet kind bound n) .units ≡ builtUnits kind bound n
   reads-units = num-bytes 2 (builtUnits kind bound n) (let u = built-header kind bound n g .unitsMost in omega arith)
@@ -69,5 +68,5 @@ module _ (kind bound n : ℕ) (g : Given kind bound n) where
       ap rowFrom
       (drop-append-add (headerBytes kind bound n (builtUnits kind bound n)) (flat (map bytes (slots n))) (14 * k)
       ∙ drop-flat bytes 14 (λ _. refl) (slots n) k
-      ∙ ap (λ (ps : List Slot). flat (map bytes ps)) (slots-step n k p (given-ranges g .partiesLeast) (at .0) (at .1)))
+      ∙ ap (λ (ps : List Slot). flat (map bytes ps)) (slots-step n k p (g .numbers .partiesLeast) (at .0) (at .1)))
       ∙ row-back (builtRow kind bound p) (flat (map bytes (drop (k + 1) (slots n)))) (built-fits kind bound n g p h)

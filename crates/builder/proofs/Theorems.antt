@@ -1,13 +1,18 @@
--- What the promises rest on for a reader: the statement of `specs/Says.antt`, and the worked sheet.
+-- What the promises rest on for a reader: the statements of `specs/Says.antt`, and the worked sheet.
 use Prim.Native.Nat.{ℕ}
 use mathlib.Core.Path.{_≡_, refl}
-use mathlib.Core.List.{[], _∷_}
+use mathlib.Core.List.{List, [], _∷_}
 use Rattle.builder.specs.Build.{builtSheet}
 use Rattle.builder.specs.Given.{Given}
-use Rattle.builder.specs.Says.{BuiltSays}
+use Rattle.builder.specs.Says.{BuildSays, BuiltSays}
 use Rattle.rules.proofs.Says.{check-says}
 use Rattle.builder.proofs.ReadBack.{length-sheet, reads-fields, reads-units, reads-row}
 use Rattle.builder.proofs.Keeps.{built-keeps}
+use Rattle.builder.proofs.Says.{build-answers}
+
+-- every answer of the builder, and what it says
+pub build-says : (kind bound n : ℕ) (out : List ℕ) → BuildSays kind bound n out
+build-says = build-answers
 
 -- every sheet that the builder writes reads back, and is accepted
 pub built-says : (kind bound n : ℕ) → Given kind bound n → BuiltSays kind bound n

@@ -3,13 +3,11 @@ ghost use mathlib.Core.Path.{_≡_};
 ghost use mathlib.Core.List.{_++_};
 ghost use Prim.Native.Nat.{_+_, _*_, _^_, _≤_, _<_};
 ghost use lib.ListN.{length, take, drop};
-ghost use lib.Dec.{T};
 ghost use Rattle.sheet.specs.Rows.{sheetLength, rowNumber};
-ghost use Rattle.rules.specs.Check.{numbersOk};
 ghost use Rattle.sheet.specs.Bytes.{bytesOf};
 ghost use Rattle.sheet.specs.Words.{IsSlot};
 ghost use Rattle.builder.specs.Build.{given, rowBytes, headerBytes, builtUnits, row2, rows1, builtRow, builtSheet};
-ghost use Rattle.builder.specs.Given.{Given};
+ghost use Rattle.builder.specs.Given.{InRange, Given};
 use sheet::rows;
 use sheet::rows::Row;
 use sheet::rows::Slot;
@@ -31,7 +29,7 @@ fn is_given1(bound: u32, parties: u32) -> bool
 
 // Whether there is a sheet for these numbers.
 pub(crate) fn is_given(kind: u32, bound: u32, parties: u32) -> bool
-    requires { ⌜ T (numbersOk kind bound parties) ⌝ }
+    requires { ⌜ InRange kind bound parties ⌝ }
     ensures { λ r. ⌜ r ≡ given kind bound parties ⌝ }
 {
     if kind == 1 {

@@ -1,7 +1,7 @@
 -- The open call is refused as the session's opening is, then where the slice is of another length; else the fresh session is written.
-use Prim.Native.Nat.{ℕ, _-_, _*_, _≤_, min}
+use Prim.Native.Nat.{ℕ, _-_, min}
 use mathlib.Core.Path.{_≡_, sym, ap, _∙_}
-use mathlib.Core.Logic.{_≢_, _↔_}
+use mathlib.Core.Logic.{_≢_}
 use mathlib.Core.List.{List, _++_, map}
 use mathlib.Core.Bool.{Bool, true, _&&_, cond}
 use borrow.Author.Tests.{eq-eqb, ne-eqb, le-leb}
@@ -21,13 +21,13 @@ use Rattle.answers.proofs.Verdicts.{refused-number}
 use Rattle.state.proofs.Filled.{fresh-taken, sheet-most}
 use Rattle.state.proofs.Openings.{opens-says}
 use Rattle.host.specs.Word.{answerWord}
-use Rattle.image.specs.Image.{proposalsOf, sessionBytes}
+use Rattle.image.specs.Image.{proposalsIn, sessionBytes}
 use Rattle.host.specs.Calls.{proposalsFor, hostOpen, openBytes}
 use Rattle.host.proofs.Opened.{Opens, if-opened, if-refused}
 
-module _ (sheet bytes session : List ℕ) (count : ℕ) (fits : (m : ℕ) → 1 ≤ m → m ≤ 16 → (count ≡ m) ↔ (length bytes ≡ 4 * m)) where
+module _ (sheet bytes session : List ℕ) where
   abbrev xs : List ℕ
-  xs = proposalsOf count bytes
+  xs = proposalsIn bytes
 
   -- the word and the bytes afterwards
   abbrev pub Answers : ℕ → List ℕ → Type 0
@@ -50,13 +50,13 @@ module _ (sheet bytes session : List ℕ) (count : ℕ) (fits : (m : ℕ) → 1 
   open-refused v r o e =
       let some = refused-number (openAnswer sheet xs) v r e o in
       let left : bytesAt (openAnswer sheet xs) ≡ session = rw some in
-      let a = answers-at (openAnswer sheet xs) (if-refused sheet bytes count fits some .1 _) in
+      let a = answers-at (openAnswer sheet xs) (if-refused sheet bytes some .1 _) in
       (ap answerWord (ap answerOf (sym o) ∙ e) ∙ a .0, sym left ∙ a .1)
 
   -- the verdict is done
   module _ (e : done ≡ openAnswer sheet xs) where
-    abbrev opens : Opens sheet bytes count fits
-    opens = if-opened sheet bytes count fits (sym e)
+    abbrev opens : Opens sheet bytes
+    opens = if-opened sheet bytes (sym e)
 
     pub open-short : length session ≢ 3418 → Answers (answerWord (answer 11 0)) session
     unfolding bytesAt

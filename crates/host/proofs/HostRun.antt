@@ -1,7 +1,7 @@
 -- The run call is refused as the session's opening is; else it is the run with the proposals that the slice says.
-use Prim.Native.Nat.{ℕ, _*_, _≤_}
+use Prim.Native.Nat.{ℕ}
 use mathlib.Core.Path.{_≡_, refl, sym, ap, _∙_}
-use mathlib.Core.Logic.{_≢_, _↔_, _⊎_, inl, inr}
+use mathlib.Core.Logic.{_≢_, _⊎_, inl, inr}
 use mathlib.Core.List.{List}
 use mathlib.Core.Bool.{Bool, true, false, cond}
 use borrow.Author.Tests.{ne-eqb}
@@ -12,13 +12,13 @@ use Rattle.sheet.specs.Lists.{firstBad}
 use Rattle.answers.specs.Answers.{Answer}
 use Rattle.state.specs.Opening.{openAnswer}
 use Rattle.steps.specs.Run.{byteOk, runAnswer, runOut}
-use Rattle.image.specs.Image.{proposalsOf}
+use Rattle.image.specs.Image.{proposalsIn}
 use Rattle.host.specs.Calls.{unlessUnopened, proposalsFor}
 use Rattle.host.proofs.Opened.{Opens, Refuses, lent}
 
-module _ (sheet bytes : List ℕ) (count : ℕ) (fits : (m : ℕ) → 1 ≤ m → m ≤ 16 → (count ≡ m) ↔ (length bytes ≡ 4 * m)) (schedule : List ℕ) where
+module _ (sheet bytes schedule : List ℕ) where
   abbrev xs : List ℕ
-  xs = proposalsOf count bytes
+  xs = proposalsIn bytes
 
   abbrev numbers : List ℕ
   numbers = proposalsFor sheet bytes
@@ -35,9 +35,9 @@ module _ (sheet bytes : List ℕ) (count : ℕ) (fits : (m : ℕ) → 1 ≤ m �
   unopened len e = rw e
 
   pub run-is : (len : ℕ) → runAnswer sheet xs schedule len ≡ host len
-  run-is len = by (lent sheet bytes count fits)
+  run-is len = by (lent sheet bytes)
     where
-      by : Opens sheet bytes count fits ⊎ Refuses sheet bytes count fits → runAnswer sheet xs schedule len ≡ host len
+      by : Opens sheet bytes ⊎ Refuses sheet bytes → runAnswer sheet xs schedule len ≡ host len
       by (inl z) = ap (λ (ys : List ℕ). runAnswer sheet ys schedule len) (z .1) ∙ sym (z .2 (runAnswer sheet numbers schedule len))
       by (inr z) = unopened len (z .0) ∙ sym (z .1 (runAnswer sheet numbers schedule len))
 
@@ -56,9 +56,9 @@ module _ (sheet bytes : List ℕ) (count : ℕ) (fits : (m : ℕ) → 1 ≤ m �
 
     pub out-is : runOut sheet xs schedule out ≡ cond (eqb (host (length out) .number) 0) (runOut sheet numbers schedule out) out
     unfolding outAt
-    out-is = by (lent sheet bytes count fits)
+    out-is = by (lent sheet bytes)
       where
-        by : Opens sheet bytes count fits ⊎ Refuses sheet bytes count fits → runOut sheet xs schedule out ≡ outAt (host (length out))
+        by : Opens sheet bytes ⊎ Refuses sheet bytes → runOut sheet xs schedule out ≡ outAt (host (length out))
         by (inl z) =
             ap (λ (ys : List ℕ). runOut sheet ys schedule out) (z .1)
             ∙ twice (eqb (runAnswer sheet numbers schedule (length out) .number) 0) _

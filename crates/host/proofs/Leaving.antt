@@ -2,7 +2,7 @@
 use Prim.Native.Nat.{ℕ, _*_, _≤_}
 use mathlib.Core.Path.{_≡_, refl, sym, _∙_}
 use mathlib.Core.List.{List, _++_}
-use mathlib.Core.Bool.{Bool, true, false, not, cond}
+use mathlib.Core.Bool.{Bool, true, false, cond}
 use native.Mathlib.Omega.{arith}
 use borrow.Author.Tests.{ltb-false, eqb-true, eqb-false, ne-eqb}
 use lib.Dec.{T, ltb, eqb}
@@ -12,8 +12,9 @@ use Rattle.sheet.specs.Bytes.{num}
 use Rattle.sheet.specs.Lists.{firstBad}
 use Rattle.sheet.specs.Rows.{sheetLength, partiesOf}
 use Rattle.answers.specs.Answers.{Answer, answer, done}
-use Rattle.rules.specs.Check.{numbersOk, checkAnswer}
-use Rattle.builder.specs.Build.{given, builtSheet, buildAnswer, outAfter}
+use Rattle.rules.specs.Check.{checkAnswer}
+use Rattle.builder.specs.Build.{builtSheet, buildAnswer, outAfter}
+use Rattle.builder.proofs.Says.{done-tells}
 use Rattle.builder.proofs.Theorems.{built-says}
 use Rattle.state.specs.Session.{freshSession}
 use Rattle.state.specs.Opening.{openAnswer}
@@ -52,24 +53,13 @@ over-count front old n size room = omega (arith, length-append front (drop n old
 
 -- ---- build
 
--- its tests, where it is done
-built-when : (a b c : Bool) → cond (not a) (answer 3 0) (cond (not b) (answer 12 0) (cond c (answer 11 0) done)) .number ≡ 0
-    → (T a) × (T b) × (c ≡ false)
-built-when true true true e = absurd (omega arith)
-built-when true true false e = (tt, tt, refl)
-built-when true false c e = absurd (omega arith)
-built-when false b c e = absurd (omega arith)
-
 module _ (kind bound n : ℕ) (out : List ℕ) where
   module _ (e : buildAnswer kind bound n (length out) .number ≡ 0) where
-    passed : (T (numbersOk kind bound n)) × (T (given kind bound n)) × (ltb (length out) (sheetLength n) ≡ false)
-    passed = built-when (numbersOk kind bound n) (given kind bound n) (ltb (length out) (sheetLength n)) e
-
     built-size : length (builtSheet kind bound n) ≡ sheetLength n
-    built-size = built-says kind bound n (record { numbers = passed .0; sheet = passed .1 }) .whole
+    built-size = built-says kind bound n (done-tells kind bound n out e .0) .whole
 
     built-room : sheetLength n ≤ length out
-    built-room = ltb-false (length out) (sheetLength n) (passed .2)
+    built-room = done-tells kind bound n out e .1
 
   abbrev put : List ℕ
   put = builtSheet kind bound n ++ drop (sheetLength n) out

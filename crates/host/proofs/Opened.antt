@@ -18,7 +18,8 @@ use Rattle.rules.proofs.Says.{rows, writers}
 use Rattle.state.specs.Opening.{openAnswer}
 use Rattle.state.proofs.FormWords.{accepted-says}
 use Rattle.state.proofs.Copies.{length-range}
-use Rattle.image.specs.Image.{proposalsOf}
+use Rattle.image.specs.Image.{proposalsOf, proposalCount, proposalsIn}
+use Rattle.image.proofs.Counts.{counted}
 use Rattle.host.specs.Calls.{unlessUnopened, proposalsFor}
 
 -- what is chosen where a test is passed has a property, and what where it is not
@@ -51,9 +52,12 @@ module _ (sheet : List ℕ) where
 
   -- ---- the proposals that the bytes hold
 
-  module _ (bytes : List ℕ) (count : ℕ) (fits : (m : ℕ) → 1 ≤ m → m ≤ 16 → (count ≡ m) ↔ (length bytes ≡ 4 * m)) where
+  module _ (bytes : List ℕ) where
+    abbrev count : ℕ
+    count = proposalCount (length bytes)
+
     abbrev xs : List ℕ
-    xs = proposalsOf count bytes
+    xs = proposalsIn bytes
 
     abbrev pub Opens : Type 0
     Opens = (openAnswer sheet xs ≡ done) × (xs ≡ proposalsFor sheet bytes) × ((rest : Answer) → unlessUnopened sheet bytes rest ≡ rest)
@@ -69,7 +73,7 @@ module _ (sheet : List ℕ) where
       same : (count ≡ n) ↔ (length bytes ≡ 4 * n)
       same =
           let header = accepted-says sheet .0 (held ok e) .before .before .before .header in
-          fits n (header .partiesLeast) (header .partiesMost)
+          counted (length bytes) .fits n (header .partiesLeast) (header .partiesMost)
 
       by-count : Dec (length bytes ≡ 4 * n) → Opens ⊎ Refuses
       by-count (yes d) =

@@ -20,7 +20,7 @@ use Rattle.builder.specs.Given.{Given}
 use Rattle.sheet.proofs.Folds.{lt-or-le}
 use Rattle.sheet.proofs.Numbers.{num-below}
 use Rattle.rules.proofs.Says.{past-6}
-use Rattle.builder.proofs.Givens.{given-ranges}
+use Rattle.builder.proofs.Givens.{kind-most}
 use Rattle.builder.proofs.Theorems.{built-says}
 use Rattle.state.specs.Session.{freshSession}
 use Rattle.state.proofs.FormWords.{accepted-says}
@@ -102,7 +102,8 @@ row-below w =
 module _ (kind bound n : ℕ) (g : Given kind bound n) where
   pub built-below : Below 256 (builtSheet kind bound n)
   built-below =
-      let r = given-ranges g in
+      let r = g .numbers in
+      let most = kind-most r in
       let units = builtUnits kind bound n in
       let rows : Slot → List ℕ = λ p. rowBytes (builtRow kind bound p) in
       let last : List ℕ = n ∷ bytesOf 2 units in

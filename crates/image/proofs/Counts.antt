@@ -1,23 +1,23 @@
--- The length of a slice leaves one count of proposals: the number that it is four times of, or 0 where it is of no number from 1 to 16.
-use Prim.Native.Nat.{ℕ, _*_, _≤_}
-use mathlib.Core.Path.{_≡_, refl, sym}
+-- A slice holds N proposals exactly where it is of 4 × N bytes, for N from 1 to 16: by cases on the tests of the count, where division by 4 is arithmetic.
+use Prim.Native.Nat.{ℕ, _*_, _%_, _≤_}
+use mathlib.Core.Path.{_≡_, refl}
 use mathlib.Core.Logic.{_↔_}
+use mathlib.Core.Bool.{Bool, true, false}
 use native.Mathlib.Omega.{arith}
-use native.Mathlib.Decide.{decLe}
+use borrow.Author.Tests.{leb-true, leb-false, eqb-true, eqb-false}
+use lib.Dec.{leb, eqb}
+use Rattle.image.specs.Image.{proposalCount}
 
--- what `proposals_from` promises of the count
-abbrev pub Counts : ℕ → ℕ → Type 0
-Counts len r = (r ≤ 16) × (4 * r ≤ len) × ((n : ℕ) → 1 ≤ n → n ≤ 16 → (r ≡ n) ↔ (len ≡ 4 * n))
+-- what the length says of the count
+pub record Counted (len count : ℕ) : Type 0 where
+  pub most : count ≤ 16
+  pub held : 4 * count ≤ len
+  pub fits : (m : ℕ) → 1 ≤ m → m ≤ 16 → (count ≡ m) ↔ (len ≡ 4 * m)
 
-module _ (len : ℕ) where
-  -- a count that is not 0 is any other
-  some-count : (a b : ℕ) → Counts len a → Counts len b → 1 ≤ a → b ≡ a
-  some-count a b (most, _, fits) (_, _, others) least = others a least most .1 (fits a least most .0 refl)
-
-  pub one-count : (a b : ℕ) → Counts len a → Counts len b → a ≡ b
-  one-count a b p q = by (decLe 1 a) (decLe 1 b)
-    where
-      by : Dec (1 ≤ a) → Dec (1 ≤ b) → a ≡ b
-      by (yes h) _ = sym (some-count a b p q h)
-      by (no h) (yes k) = some-count b a q p k
-      by (no h) (no k) = omega arith
+pub counted : (len : ℕ) → Counted len (proposalCount len)
+counted len = by (leb len 64) (eqb (len % 4) 0) refl refl
+  where
+    by : (few whole : Bool) → leb len 64 ≡ few → eqb (len % 4) 0 ≡ whole → Counted len (proposalCount len)
+    by true true e f = let h = leb-true len 64 e in let z = eqb-true (len % 4) 0 f in rw (e, f) (omega arith)
+    by true false e f = let z = eqb-false (len % 4) 0 f in rw (e, f) (omega arith)
+    by false whole e f = let h = leb-false len 64 e in rw e (omega arith)

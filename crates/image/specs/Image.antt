@@ -1,7 +1,9 @@
 -- A session in 3,418 bytes, big-endian and without gaps: sheet copy 1,898; proposals 16 × 4; marks 1,024; published 256; parties 16 × 11.
-use Prim.Native.Nat.{ℕ, _*_, _^_, _<_}
+use Prim.Native.Nat.{ℕ, _*_, _/_, _%_, _^_, _<_}
 use mathlib.Core.Path.{_≡_}
 use mathlib.Core.List.{List, _∷_, _++_, map}
+use mathlib.Core.Bool.{_&&_, cond}
+use lib.Dec.{leb, eqb}
 use lib.ListN.{length, getD, take, drop}
 use Rattle.sheet.specs.Lists.{from, flat}
 use Rattle.sheet.specs.Bytes.{num, bytesOf}
@@ -39,6 +41,14 @@ partyFrom b =
 -- the proposals of n parties, 4 bytes each
 abbrev pub proposalsOf : ℕ → List ℕ → List ℕ
 proposalsOf n b = map (λ j. num b (4 * j) 4) (from 0 n)
+
+-- how many proposals so many bytes hold; 0, which is no number of parties, where they are more than 64 or no multiple of 4
+abbrev pub proposalCount : ℕ → ℕ
+proposalCount len = cond (leb len 64 && eqb (len % 4) 0) (len / 4) 0
+
+-- the proposals of a slice: as many as it holds
+abbrev pub proposalsIn : List ℕ → List ℕ
+proposalsIn b = proposalsOf (proposalCount (length b)) b
 
 abbrev pub partiesFrom : List ℕ → List Party
 partiesFrom b = map (λ j. partyFrom (drop (11 * j) b)) (from 0 16)

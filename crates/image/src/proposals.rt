@@ -1,11 +1,10 @@
 // Proposals in bytes, 4 each.
 ghost use mathlib.Core.Path.{_≡_};
 ghost use mathlib.Core.List.{_++_};
-ghost use mathlib.Core.Logic.{_↔_};
-ghost use Prim.Native.Nat.{ℕ, _*_, _≤_};
+ghost use Prim.Native.Nat.{_*_, _≤_};
 ghost use lib.ListN.{length, drop};
 ghost use Rattle.state.specs.Session.{filled};
-ghost use Rattle.image.specs.Image.{proposalsBytes, proposalsOf};
+ghost use Rattle.image.specs.Image.{proposalsBytes, proposalsOf, proposalCount, proposalsIn};
 use crate::slices;
 
 // The proposals that a slice holds, and zeros behind them.
@@ -16,7 +15,7 @@ pub struct Proposals {
 
 // How many proposals a slice of this length holds; 0, which is no number of parties, where it is of no sheet's.
 fn proposals_count(len: usize) -> usize
-    ensures { λ r. ⌜ (r ≤ 16) × (4 * r ≤ len) × ((n : ℕ) → 1 ≤ n → n ≤ 16 → (r ≡ n) ↔ (len ≡ 4 * n)) ⌝ }
+    ensures { λ r. ⌜ r ≡ proposalCount len ⌝ }
 {
     if 64 < len {
         return 0;
@@ -43,8 +42,8 @@ pub(crate) fn numbers_from(s: &[u8], n: usize) -> [u32; 16]
 
 // The proposals of a slice: as many as it holds, or none where it is of no sheet's length.
 pub fn proposals_from(s: &[u8]) -> Proposals
-    ensures { λ r. ⌜ (r .count ≤ 16) × (4 * r .count ≤ length (now (s .entry))) × ((n : ℕ) → 1 ≤ n → n ≤ 16 → (r .count ≡ n) ↔ (length (now (s .entry)) ≡ 4 * n)) ⌝ }
-    ensures { λ r. ⌜ r .numbers ≡ filled 16 (proposalsOf (r .count) (now (s .entry))) ⌝ }
+    ensures { λ r. ⌜ r .count ≡ proposalCount (length (now (s .entry))) ⌝ }
+    ensures { λ r. ⌜ r .numbers ≡ filled 16 (proposalsIn (now (s .entry))) ⌝ }
 {
     let count = proposals_count(s.len());
     let numbers = numbers_from(s, count);

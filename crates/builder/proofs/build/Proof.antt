@@ -10,7 +10,7 @@ use Rattle.rules.specs.Check.{numbersOk}
 use Rattle.builder.specs.Build.{given}
 use Rattle.builder.specs.Given.{Given}
 use Rattle.sheet.proofs.Folds.{held}
-use Rattle.builder.proofs.Givens.{given-ranges}
+use Rattle.builder.proofs.Givens.{numbers-words, given-words}
 use Rattle.builder.proofs.build.Statement.{statement}
 use Rattle.builder.proofs.build.Tie as tie
 
@@ -23,7 +23,9 @@ returns c =
     (simp numbers, simp numbers)
 
 is-given-requires : tie.Need-is-given-requires
-is-given-requires c κs = held _ (sym (c .before .numbers-ok .ensures) ∙ not-false _ (c .if1 .left))
+is-given-requires c κs =
+    let a = c .before .before .before .args in
+    numbers-words (a .kind) (a .bound) (a .parties) .says .0 (held _ (sym (c .before .numbers-ok .ensures) ∙ not-false _ (c .if1 .left)))
 
 returns-2 : tie.Need-returns-2
 returns-2 c =
@@ -44,10 +46,13 @@ passed c = (
 )
 
 there : (c : tie.Else2) → Given (entry c .args .kind) (entry c .args .bound) (entry c .args .parties)
-there c = record { numbers = held _ (passed c .0); sheet = held _ (passed c .1) }
+there c =
+    let a = entry c .args in
+    let numbers = numbers-words (a .kind) (a .bound) (a .parties) .says .0 (held _ (passed c .0)) in
+    given-words (a .kind) (a .bound) (a .parties) numbers .says .0 (held _ (passed c .1))
 
 cast-sheet-length : tie.Need-cast-sheet-length
-cast-sheet-length c = omega (arith, given-ranges (there c))
+cast-sheet-length c = omega (arith, there c .numbers)
 
 returns-3 : tie.Need-returns-3
 returns-3 c =

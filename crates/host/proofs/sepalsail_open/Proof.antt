@@ -8,7 +8,7 @@ use lib.ListN.{take}
 use Rattle.answers.specs.Answers.{done, answerOf}
 use Rattle.state.specs.Opening.{openAnswer}
 use Rattle.state.proofs.Openings.{opens-says}
-use Rattle.image.specs.Image.{proposalsOf}
+use Rattle.image.specs.Image.{proposalsIn}
 use Rattle.image.proofs.Filling.{front, front-length, front-fits}
 use Rattle.host.proofs.HostOpen.{open-refused, open-short, open-filled}
 use Rattle.host.proofs.sepalsail_open.Statement.{statement}
@@ -30,23 +30,23 @@ count c = c .proposals-from .result .count
 abbrev lent : tie.After-proposals-from → List ℕ
 lent c = take (count c) (c .proposals-from .result .numbers)
 
-lent-is : (c : tie.After-proposals-from) → lent c ≡ proposalsOf (count c) (bytes c)
-lent-is c = front (bytes c) (c .proposals-from .result .numbers) (count c) (c .proposals-from .ensures .1)
+lent-is : (c : tie.After-proposals-from) → lent c ≡ proposalsIn (bytes c)
+lent-is c = front (bytes c) (c .proposals-from .result .numbers) (count c) (c .proposals-from .ensures .0) (c .proposals-from .ensures .1)
 
 array-share-prefix-numbers : tie.Need-array-share-prefix-numbers
 array-share-prefix-numbers c =
     let given = c .before in
-    front-fits (bytes given) (given .proposals-from .result .numbers) (count given) (given .proposals-from .ensures .1)
+    front-fits (bytes given) (given .proposals-from .result .numbers) (count given) (given .proposals-from .ensures .0) (given .proposals-from .ensures .1)
 
 slice-aggregate-opens : tie.Need-slice-aggregate-opens
 slice-aggregate-opens c =
     let given = c .before .before in
-    sym (front-length (bytes given) (given .proposals-from .result .numbers) (count given) (given .proposals-from .ensures .1))
+    sym (front-length (bytes given) (given .proposals-from .result .numbers) (count given) (given .proposals-from .ensures .0) (given .proposals-from .ensures .1))
 
 abbrev given : tie.After-opens → tie.After-proposals-from
 given c = c .before .before .before
 
-answer-is : (c : tie.After-opens) → answerOf (c .opens .result) ≡ openAnswer (sheet (given c)) (proposalsOf (count (given c)) (bytes (given c)))
+answer-is : (c : tie.After-opens) → answerOf (c .opens .result) ≡ openAnswer (sheet (given c)) (proposalsIn (bytes (given c)))
 answer-is c = c .opens .ensures ∙ ap (openAnswer (sheet (given c))) (lent-is (given c))
 
 returns : tie.Need-returns
@@ -54,17 +54,17 @@ returns c =
     let v = c .before .before .v .given in
     let o = c .before .before .before .before in
     let g = given o in
-    let r = open-refused (sheet g) (bytes g) (start g .args .session .now) _ (g .proposals-from .ensures .0 .2) _ (v .0 .0) (v .1) (answer-is o) in
+    let r = open-refused (sheet g) (bytes g) (start g .args .session .now) _ (v .0 .0) (v .1) (answer-is o) in
     (c .refused .ensures ∙ r .0, r .1)
 
-done-is : (c : tie.After-enum-told) → let g = given (c .before .before) in done ≡ openAnswer (sheet g) (proposalsOf (count g) (bytes g))
+done-is : (c : tie.After-enum-told) → let g = given (c .before .before) in done ≡ openAnswer (sheet g) (proposalsIn (bytes g))
 done-is c = sym (ap answerOf (c .enum-told .given .1)) ∙ answer-is (c .before .before)
 
 returns-2 : tie.Need-returns-2
 returns-2 c =
     let told = c .before .before in
     let g = given (told .before .before) in
-    let r = open-short (sheet g) (bytes g) (start g .args .session .now) _ (g .proposals-from .ensures .0 .2) (done-is told) (c .before .if1 .taken) in
+    let r = open-short (sheet g) (bytes g) (start g .args .session .now) (done-is told) (c .before .if1 .taken) in
     (c .refused2 .ensures ∙ r .0, r .1)
 
 -- the sheet has a number of parties
@@ -72,7 +72,7 @@ shared-slice-read-fresh-parties : tie.Need-shared-slice-read-fresh-parties
 shared-slice-read-fresh-parties c =
     let told = c .before .before in
     let g = given (told .before .before) in
-    let whole = opens-says (sheet g) (proposalsOf (count g) (bytes g)) (sym (done-is told)) .0 .before .before .before .before .before .whole in
+    let whole = opens-says (sheet g) (proposalsIn (bytes g)) (sym (done-is told)) .0 .before .before .before .before .before .whole in
     omega arith
 
 returns-3 : tie.Need-returns-3
@@ -82,7 +82,7 @@ returns-3 c =
     let here = filled .before .before in
     let told = here .before in
     let g = given (told .before .before) in
-    open-filled (sheet g) (bytes g) (start g .args .session .now) _ (g .proposals-from .ensures .0 .2) (done-is told)
+    open-filled (sheet g) (bytes g) (start g .args .session .now) (done-is told)
     (g .proposals-from .result .numbers) (filled .fresh-parties .result) (g .proposals-from .ensures .1) (filled .fresh-parties .ensures) (here .if1 .left) _
     (written .write-fresh .ensures)
 

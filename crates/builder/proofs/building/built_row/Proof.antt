@@ -7,17 +7,17 @@ use borrow.Author.Tests.{eq-eqb, ne-eqb}
 use lib.ListN.{getD}
 use Rattle.sheet.specs.Rows.{rowNumber, noRow}
 use Rattle.builder.specs.Build.{rows1}
-use Rattle.builder.proofs.Givens.{given-ranges, word-room}
+use Rattle.builder.proofs.Givens.{word-room}
 use Rattle.builder.proofs.building.built_row.Statement.{statement}
 use Rattle.builder.proofs.building.built_row.Tie as tie
 
 cast-word-row : tie.Need-cast-word-row
-cast-word-row c = let r = given-ranges (c .before .pre .0) in omega arith
+cast-word-row c = let r = c .before .pre .0 .numbers in omega arith
 
 word-row-requires : tie.Need-word-row-requires
 word-row-requires c κs =
     let s = c .before .pre .1 in
-    let r = given-ranges (c .before .pre .0) in
+    let r = c .before .pre .0 .numbers in
     let room = word-room (c .before .pre .0) (c .if1 .left) in
     (record { first = s .first; last = omega arith; lowest = s .lowest; top = s .top }, omega arith, r .boundMost)
 

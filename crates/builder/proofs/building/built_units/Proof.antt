@@ -3,7 +3,6 @@ use Prim.Native.Nat.{_-_, _*_, _≤_}
 use native.Mathlib.Nat.{mul-le-mul}
 use native.Mathlib.Omega.{arith}
 use borrow.Author.Tests.{eq-eqb, ne-eqb}
-use Rattle.builder.proofs.Givens.{given-ranges}
 use Rattle.builder.proofs.building.built_units.Statement.{statement}
 use Rattle.builder.proofs.building.built_units.Tie as tie
 
@@ -17,11 +16,11 @@ returns-3 : tie.Need-returns-3
 returns-3 c = simp (ne-eqb _ _ (c .before .before .if1 .left), eq-eqb _ _ (c .before .if2 .taken), ne-eqb _ _ (c .if3 .left))
 
 sub-result : tie.Need-sub-result
-sub-result c = omega (arith, given-ranges (c .before .before .pre))
+sub-result c = omega (arith, c .before .before .pre .numbers)
 
 product : (c : tie.Else2) → (c .before .before .args .parties - 1) * c .before .before .args .bound ≤ 960
 product c =
-    let r = given-ranges (c .before .before .pre) in
+    let r = c .before .before .pre .numbers in
     mul-le-mul {n₁ = c .before .before .args .parties - 1} {n₂ = 15} {m₂ = 64} (omega arith) (r .boundMost)
 
 mul-result : tie.Need-mul-result

@@ -2,7 +2,6 @@
 use native.Mathlib.Omega.{arith}
 use borrow.Author.Needs.{needs}
 use borrow.Author.Tests.{eq-eqb, ne-eqb}
-use Rattle.builder.proofs.Givens.{ranges}
 use Rattle.builder.proofs.building.is_given.Statement.{statement}
 use Rattle.builder.proofs.building.is_given.Tie as tie
 
@@ -10,10 +9,10 @@ is-given1-requires : tie.Need-is-given1-requires
 is-given1-requires c κs = search needs
 
 mul-result : tie.Need-mul-result
-mul-result c = omega (arith, ranges (c .before .args .kind) (c .before .args .bound) (c .before .args .parties) (c .before .pre))
+mul-result c = omega (arith, c .before .pre)
 
 sub-result : tie.Need-sub-result
-sub-result c = omega (arith, ranges (c .before .args .kind) (c .before .args .bound) (c .before .args .parties) (c .before .pre))
+sub-result c = omega (arith, c .before .pre)
 
 returns : tie.Need-returns
 returns c = simp (eq-eqb _ _ (c .before .if1 .taken)) (c .is-given1 .ensures)

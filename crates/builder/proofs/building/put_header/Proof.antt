@@ -8,7 +8,7 @@ use lib.ListN.{length, take, drop, length-set}
 use lib.Seq.{sets, sets-eq, drop-drop}
 use Rattle.sheet.specs.Bytes.{bytesOf}
 use Rattle.sheet.proofs.Slots.{count-most}
-use Rattle.builder.proofs.Givens.{given-ranges}
+use Rattle.builder.proofs.Givens.{kind-most}
 use Rattle.builder.proofs.building.put_header.Statement.{statement}
 use Rattle.builder.proofs.building.put_header.Tie as tie
 
@@ -31,22 +31,22 @@ abbrev entry : tie.After-slice-known2 → tie.Start
 entry c = c .before .before .before .before .before .before
 
 cast-sheet-length : tie.Need-cast-sheet-length
-cast-sheet-length c = omega (arith, given-ranges (c .before .before .pre .0))
+cast-sheet-length c = omega (arith, c .before .before .pre .0 .numbers)
 
 cast-put-two : tie.Need-cast-put-two
 cast-put-two c =
     let start = c .before .before .before in
-    let most = count-most (start .args .parties) (given-ranges (start .pre .0) .partiesMost) in
+    let most = count-most (start .args .parties) (start .pre .0 .numbers .partiesMost) in
     omega (arith, c .sheet-length .ensures)
 
 cast-o : tie.Need-cast-o
-cast-o c = omega (arith, given-ranges (entry c .pre .0))
+cast-o c = omega (arith, kind-most (entry c .pre .0 .numbers))
 
 cast-o-2 : tie.Need-cast-o-2
-cast-o-2 c = omega (arith, given-ranges (entry c .pre .0))
+cast-o-2 c = omega (arith, entry c .pre .0 .numbers)
 
 cast-o-3 : tie.Need-cast-o-3
-cast-o-3 c = omega (arith, given-ranges (entry c .pre .0))
+cast-o-3 c = omega (arith, entry c .pre .0 .numbers)
 
 slice-write-o-2 : tie.Need-slice-write-o-2
 slice-write-o-2 c = simp length-set (omega arith)

@@ -8,7 +8,6 @@ use borrow.Author.Needs.{needs}
 use Rattle.sheet.specs.Rows.{rowCount}
 use Rattle.sheet.specs.Words.{IsSlot}
 use Rattle.sheet.proofs.Slots.{AtRow, after-next, at-first, at-next, at-slot}
-use Rattle.builder.proofs.Givens.{given-ranges}
 use Rattle.builder.proofs.Written.{written, opening, turn, closing}
 use Rattle.builder.proofs.building.put_sheet.Statement.{statement}
 use Rattle.builder.proofs.building.put_sheet.Tie as tie
@@ -24,7 +23,7 @@ put-header-requires : tie.Need-put-header-requires Inv-loop μ-loop
 put-header-requires c κs = (c .before .before .pre .0, search needs)
 
 cast-row-count : tie.Need-cast-row-count Inv-loop μ-loop
-cast-row-count c = omega (arith, given-ranges (c .before .before .before .before .before .pre .0))
+cast-row-count c = omega (arith, c .before .before .before .before .before .pre .0 .numbers)
 
 first-requires : tie.Need-first-requires Inv-loop μ-loop
 first-requires c κs = search needs
@@ -82,7 +81,7 @@ loop-again c =
     let head = in-loop .before .before .before .before .before .before in
     let args = entry in-loop .args in
     let row = call .before .before .built-row in
-    let r = given-ranges (entry in-loop .pre .0) in (
+    let r = entry in-loop .pre .0 .numbers in (
       rw (c .next .ensures ∙ after-next (l .p) (let last = row-of in-loop .last in omega arith)) (at-next (l .k) (l .p) (l .inv .0)),
       omega arith,
       omega (arith, c .before .before .out2 .given .1),
@@ -99,7 +98,7 @@ returns c =
     let head = c .before .before .before .before .before .before in
     let start = head .before .before .before in
     let args = start .args in
-    let r = given-ranges (start .pre .0) in
+    let r = start .pre .0 .numbers in
     closing (args .kind) (args .bound) (args .parties) (l .k) (args .out .now) (head .put-header .last .0) (l .out)
     (r .partiesLeast) (omega arith) (head .put-header .ensures) (l .inv .3)
 
