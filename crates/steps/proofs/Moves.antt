@@ -17,13 +17,17 @@ use Rattle.steps.proofs.Obeying.{Good, good}
 
 -- ---- moves of parties 1 to n
 
-abbrev OfParty : ℕ → Move → Type 0
+abbrev pub OfParty : ℕ → Move → Type 0
 OfParty n m = (1 ≤ whose m) × (whose m ≤ n)
 
 -- every one is a party's
 pub data Ofs (n : ℕ) : List Move → Type 0 where
   none : Ofs n []
   more : (m : Move) {ms : List Move} → OfParty n m → Ofs n ms → Ofs n (m ∷ ms)
+
+pub move-leads : {n : ℕ} {s t : Session} → Leads n s t → (m : Move) → OfParty n m → Leads n s (moved t m)
+move-leads R (stepOf i) o = by-step i (o .0) (o .1) R
+move-leads R (stopOf i) o = by-stop i (o .0) (o .1) R
 
 pub moves-lead : {n : ℕ} {s t : Session} → Leads n s t → {ms : List Move} → Ofs n ms → Leads n s (movedBy t ms)
 moves-lead R none = R
@@ -38,7 +42,7 @@ moves-on R (more (stopOf i) {ms} o os) = moves-on (by-stop i (o .0) (o .1) R) os
 
 -- ---- a schedule
 
-entry-moved : (s : Session) (b : ℕ) → entry s b ≡ moved s (moveOf b)
+pub entry-moved : (s : Session) (b : ℕ) → entry s b ≡ moved s (moveOf b)
 entry-moved s b = by (ltb b 128)
   where
     by : (t : Bool) → cond t (step s b) (stop s (b - 128)) ≡ moved s (cond t (stepOf b) (stopOf (b - 128)))

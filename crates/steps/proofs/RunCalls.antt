@@ -4,8 +4,7 @@ use mathlib.Core.Path.{_≡_, refl, sym, ap, _∙_, subst}
 use mathlib.Core.List.{List, [], _∷_}
 use mathlib.Core.Bool.{Bool, true, false, not, _&&_, cond}
 use native.Mathlib.Omega.{arith}
-use native.Mathlib.Decide.{ℕ-discrete}
-use borrow.Author.Tests.{ltb-true, ltb-false, lt-ltb, eq-eqb, ne-eqb}
+use borrow.Author.Tests.{ltb-true, ltb-false, lt-ltb, eq-eqb}
 use lib.Dec.{T, ltb, eqb}
 use lib.ListN.{length}
 use Rattle.sheet.specs.Rows.{partiesOf}
@@ -20,10 +19,12 @@ use Rattle.state.proofs.FormWords.{well-formed-says}
 use Rattle.state.proofs.Openings.{opens, opened-fresh}
 use Rattle.steps.specs.Step.{step, placeActed, stop}
 use Rattle.steps.specs.Calls.{Told, stepTold, stepped, stopTold, stopped}
-use Rattle.steps.specs.Run.{byteOk, entry, obeyed, ran}
-use Rattle.steps.specs.Trace.{call, callTold, called, calledTold, actsAt, acts, actsTold}
+use Rattle.steps.specs.Run.{byteOk, moveOf, movesIn, entry, obeyed, ran}
+use Rattle.steps.specs.Moves.{stepOf, stopOf, whose}
+use Rattle.steps.specs.Trace.{call, callTold, called, calledTold, valuesTold, isAct, acts, actsTold}
 use Rattle.steps.proofs.Refusals.{parties-byte, parties-few, Past, answered}
 use Rattle.steps.proofs.Reached.{Reached, here, reached-parties, reached-well-formed}
+use Rattle.steps.proofs.Moves.{entry-moved}
 use Rattle.steps.proofs.Obeying.{Good, byte-good, entry-reached}
 
 -- the status that a stop leaves
@@ -69,18 +70,15 @@ module _ (sheet proposals : List ℕ) (rules : Rules6 sheet) (count : length pro
       call-place : b < 128 → callTold s b .value ≡ placeActed s b
       call-place l = rw (lt-ltb b 128 l) (ap (λ (a : Told). a .value) (sym (answered s b (step s b) (placeActed s b) (low l) .1)))
 
-      -- it is an act of party i exactly if it is its step call and tells something other than 8
-      act-told : (i : ℕ) → i ≤ n → actsAt s b i ≡ (eqb b i && not (eqb (callTold s b .value) 8))
-      act-told i most = by (ℕ-discrete b i)
+      -- what is told of a call shows whether party i acts
+      act-told : (i : ℕ) → isAct i (moveOf b) (placeActed s (whose (moveOf b))) ≡ isAct i (moveOf b) (callTold s b .value)
+      act-told i = by (ltb b 128) refl
         where
-          by : Dec (b ≡ i) → actsAt s b i ≡ (eqb b i && not (eqb (callTold s b .value) 8))
-          by (yes e) =
-              let few = rules .before .before .before .header .partiesMost in
-              let place : callTold s b .value ≡ placeActed s i = call-place (omega arith) ∙ ap (placeActed s) e in
-              ap (λ (x : ℕ). eqb b i && not (eqb x 8)) (sym place)
-          by (no o) =
-              ap (λ (x : Bool). x && not (eqb (placeActed s i) 8)) (ne-eqb b i o)
-              ∙ sym (ap (λ (x : Bool). x && not (eqb (callTold s b .value) 8)) (ne-eqb b i o))
+          by : (t : Bool) → ltb b 128 ≡ t
+              → isAct i (cond t (stepOf b) (stopOf (b - 128))) (placeActed s (whose (cond t (stepOf b) (stopOf (b - 128)))))
+              ≡ isAct i (cond t (stepOf b) (stopOf (b - 128))) (callTold s b .value)
+          by true e = ap (λ (x : ℕ). eqb b i && not (eqb x 8)) (sym (call-place (ltb-true b 128 e)))
+          by false e = refl
 
   -- ---- a schedule of good bytes
 
@@ -105,15 +103,16 @@ module _ (sheet proposals : List ℕ) (rules : Rules6 sheet) (count : length pro
       (told-done (entry-reached sheet proposals rules R b good) bs later))
 
   -- the acts are the step calls that told something other than 8
-  acts-told : {s : Session} → Reached sheet proposals s → (bs : List ℕ) → T (all (byteOk n) bs) → (i : ℕ) → i ≤ n
-      → acts s bs i ≡ actsTold i bs (calledTold s bs)
-  acts-told R [] t i most = refl
-  acts-told {s} R (b ∷ bs) t i most =
+  acts-told : {s : Session} → Reached sheet proposals s → (bs : List ℕ) → T (all (byteOk n) bs) → (i : ℕ)
+      → acts s (movesIn bs) i ≡ actsTold i (movesIn bs) (valuesTold s bs)
+  acts-told R [] t i = refl
+  acts-told {s} R (b ∷ bs) t i =
       let good = and-left (byteOk n b) (all (byteOk n) bs) t in
       let g = byte-good sheet proposals rules b good in
-      let test = act-told R b g i most in
-      let later = acts-told (entry-reached sheet proposals rules R b good) bs (and-right (byteOk n b) (all (byteOk n) bs) t) i most
-      ∙ ap (λ (u : Session). actsTold i bs (calledTold u bs)) (sym (call-entry R b g)) in
+      let test = act-told R b g i in
+      let later = ap (λ (u : Session). acts u (movesIn bs) i) (sym (entry-moved s b))
+      ∙ acts-told (entry-reached sheet proposals rules R b good) bs (and-right (byteOk n b) (all (byteOk n) bs) t) i
+      ∙ ap (λ (u : Session). actsTold i (movesIn bs) (valuesTold u bs)) (sym (call-entry R b g)) in
       λ k. cond (test k) (suc (later k)) (later k)
 
   opens-fresh : freshSession sheet proposals n ≡ opened sheet proposals
@@ -128,6 +127,6 @@ module _ (sheet proposals : List ℕ) (rules : Rules6 sheet) (count : length pro
     pub run-told : T (all (λ t. eqb (t .number) 0) (calledTold (opened sheet proposals) schedule))
     run-told = subst (λ (s : Session). T (all (λ t. eqb (t .number) 0) (calledTold s schedule))) opens-fresh (told-done here schedule good)
 
-    -- and the acts along the schedule are the step calls that told something other than 8
-    pub run-acts : (i : ℕ) → i ≤ n → acts (freshSession sheet proposals n) schedule i ≡ actsTold i schedule (calledTold (opened sheet proposals) schedule)
-    run-acts i most = acts-told here schedule good i most ∙ ap (λ (s : Session). actsTold i schedule (calledTold s schedule)) opens-fresh
+    -- and the acts on its way are the step calls that told something other than 8
+    pub run-acts : (i : ℕ) → acts (freshSession sheet proposals n) (movesIn schedule) i ≡ actsTold i (movesIn schedule) (valuesTold (opened sheet proposals) schedule)
+    run-acts i = acts-told here schedule good i ∙ ap (λ (s : Session). actsTold i (movesIn schedule) (valuesTold s schedule)) opens-fresh

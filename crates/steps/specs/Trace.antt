@@ -1,12 +1,12 @@
--- A schedule seen from outside: the calls that it stands for, what they tell, and how often a party acts.
+-- A schedule seen from outside: the calls that it stands for, what they tell, and how often a party acts on the way.
 use Prim.Native.Nat.{ℕ, suc, _-_}
-use mathlib.Core.List.{List, [], _∷_}
-use mathlib.Core.Bool.{Bool, not, _&&_, cond}
+use mathlib.Core.List.{List, [], _∷_, map}
+use mathlib.Core.Bool.{Bool, false, not, _&&_, cond}
 use lib.Dec.{ltb, eqb}
 use Rattle.state.specs.declared.kept.Session.{Session}
 use Rattle.steps.specs.Step.{placeActed}
+use Rattle.steps.specs.Moves.{Move, stepOf, stopOf, whose, moved}
 use Rattle.steps.specs.Calls.{Told, stepTold, stepped, stopTold, stopped}
-use Rattle.steps.specs.Run.{entry}
 
 -- ---- the calls
 
@@ -27,19 +27,24 @@ abbrev pub calledTold : Session → List ℕ → List Told
 calledTold s [] = []
 calledTold s (b ∷ bs) = callTold s b ∷ calledTold (call s b) bs
 
+-- the values among it: places and statuses
+abbrev pub valuesTold : Session → List ℕ → List ℕ
+valuesTold s bs = map (λ t. t .value) (calledTold s bs)
+
 -- ---- the acts of a party
 
--- the byte is a step of party i, and the party acts
-abbrev pub actsAt : Session → ℕ → ℕ → Bool
-actsAt s b i = eqb b i && not (eqb (placeActed s i) 8)
+-- a move is a step of party i, of which something other than 8 was told
+abbrev pub isAct : ℕ → Move → ℕ → Bool
+isAct i (stepOf j) value = eqb j i && not (eqb value 8)
+isAct i (stopOf j) value = false
 
--- how many bytes of a schedule are steps of party i that act
-abbrev pub acts : Session → List ℕ → ℕ → ℕ
+-- how often party i acts on the way
+abbrev pub acts : Session → List Move → ℕ → ℕ
 acts s [] i = 0
-acts s (b ∷ bs) i = let r = acts (entry s b) bs i in cond (actsAt s b i) (suc r) r
+acts s (m ∷ ms) i = let r = acts (moved s m) ms i in cond (isAct i m (placeActed s (whose m))) (suc r) r
 
--- how many of the calls are steps of party i that told something other than 8
-abbrev pub actsTold : ℕ → List ℕ → List Told → ℕ
-actsTold i [] ts = 0
-actsTold i (b ∷ bs) [] = 0
-actsTold i (b ∷ bs) (t ∷ ts) = let r = actsTold i bs ts in cond (eqb b i && not (eqb (t .value) 8)) (suc r) r
+-- how many of the moves are its acts by the values that were told
+abbrev pub actsTold : ℕ → List Move → List ℕ → ℕ
+actsTold i [] values = 0
+actsTold i (m ∷ ms) [] = 0
+actsTold i (m ∷ ms) (x ∷ values) = let r = actsTold i ms values in cond (isAct i m x) (suc r) r
