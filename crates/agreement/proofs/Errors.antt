@@ -6,7 +6,7 @@ use Rattle.rules.specs.Check.{checkAnswer}
 use Rattle.builder.specs.Build.{builtSheet}
 use Rattle.state.specs.Session.{freshSession}
 use Rattle.state.specs.declared.kept.Session.{Session}
-use Rattle.steps.specs.Step.{won, nextK, lowersWin, seen, partyAfter, marksAfter, publishedAfter}
+use Rattle.steps.specs.Step.{won, nextK, lowersWin, seen, partyAfter, partyActed, marksAfter, publishedAfter}
 use Rattle.agreement.specs.Errors.{stepBy, stepsBy, decisions, candidates, pairFirst, lastMark, publishLate, coveringSheet}
 
 -- two parties on the worked sheet

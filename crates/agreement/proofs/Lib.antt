@@ -1,7 +1,8 @@
 -- Laws that several proofs cite; each file says its argument in its first line.
 pub mod Errors
 pub mod Tight
-pub mod Theorems
+pub mod Demands
 pub mod Parties
 pub mod Readings
 pub mod Record
+pub mod Theorems

@@ -21,7 +21,8 @@ use Rattle.steps.proofs.Turns.{step-none, step-other, stop-other}
 use Rattle.steps.proofs.Changes.{step-live}
 use Rattle.steps.proofs.Reached.{reached-kept, reached-parties, reached-well-formed}
 use Rattle.agreement.specs.Demand.{Opens, Demand}
-use Rattle.agreement.proofs.Theorems.{rules, of-reached}
+use Rattle.agreement.proofs.Demands as demands
+use Rattle.agreement.proofs.Demands.{rules}
 
 -- ---- the numbers of a party
 
@@ -30,23 +31,27 @@ pub record Fits (p : Party) : Type 0 where
   pub steps : p .steps < 256 ^ 2
   pub decision : p .decision < 256 ^ 4
 
-module _ (sheet proposals : List ℕ) (o : Opens sheet proposals) (words : (j : ℕ) → getD proposals j 0 < 2 ^ 32)
-    {s : Session} (R : Reached sheet proposals s) (i : ℕ) (least : 1 ≤ i) (most : i ≤ partiesOf sheet) where
+module _ (sheet proposals : List ℕ) (o : Opens sheet proposals) {s : Session} (R : Reached sheet proposals s)
+    (i : ℕ) (least : 1 ≤ i) (most : i ≤ partiesOf sheet) where
   abbrev p : Party
   p = partyOf (s .parties) i
 
   rule : PartyRule (layout s .parties) (s .published) i p
   rule = reached-well-formed sheet proposals (rules o) (o .count) R .parties i least (omega (arith, reached-parties sheet proposals (rules o) R))
 
-  demand : Demand (partiesOf sheet) proposals s
-  demand = of-reached sheet proposals o s R
+  -- who has not decided has no decision
+  pub undecided : (p .status ≡ 2 → ⊥) → p .decision ≡ 0
+  undecided = rule .noDecision
 
-  pub fits : Fits p
-  fits = record { steps = omega (arith, rule .steps); decision = by (ℕ-discrete (p .status) 2) }
+  pub fits : ((j : ℕ) → getD proposals j 0 < 2 ^ 32) → Fits p
+  fits words = record { steps = omega (arith, rule .steps); decision = by (ℕ-discrete (p .status) 2) }
     where
+      demand : Demand (partiesOf sheet) proposals s
+      demand = demands.demand sheet proposals o R
+
       by : Dec (p .status ≡ 2) → p .decision < 256 ^ 4
       by (yes e) = let d = demand .agreed .decision i least most e in let w = words (demand .holder - 1) in omega arith
-      by (no e) = let d = rule .noDecision e in omega arith
+      by (no e) = let d = undecided e in omega arith
 
 -- ---- a party that is not at place 0 has taken an own step
 

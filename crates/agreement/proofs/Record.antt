@@ -1,4 +1,4 @@
--- In the record each party's 7 bytes stand where they are read and its numbers fit them, so the record says what demand 3 says of the session.
+-- In the record each party's 7 bytes stand where they are read and its numbers fit them, so the record says the parties.
 use Prim.Native.Nat.{ℕ, zero, suc, _+_, _-_, _*_, _^_, _≤_, _<_}
 use mathlib.Core.Path.{_≡_, refl, sym, ap, _∙_, subst}
 use mathlib.Core.List.{List, [], _∷_, _++_, map}
@@ -17,14 +17,16 @@ use Rattle.state.specs.Session.{noParty, partyOf}
 use Rattle.state.specs.declared.kept.Party.{Party}
 use Rattle.state.specs.declared.kept.Session.{Session}
 use Rattle.state.proofs.Openings.{opens}
-use Rattle.record.specs.Record.{partyRecord, recordHead, recordBytes, recordLength}
+use Rattle.record.specs.Record.{partyRecord, recordHead, recordBytes, recordLength, placeAfter, ofRecord}
 use Rattle.steps.specs.Run.{byteOk, runAnswer, ran, runOut}
-use Rattle.steps.specs.Reach.{Reached}
+use Rattle.steps.specs.Reach.{Reached, here}
+use Rattle.steps.proofs.Obeying.{obeyed-reached}
 use Rattle.steps.proofs.RunAnswers.{run-done, out-written}
-use Rattle.agreement.specs.Demand.{Opens, placeIn, statusIn, stepsIn, decisionIn, OfRecord, OfRun}
-use Rattle.agreement.proofs.Theorems.{rules, reached}
+use Rattle.agreement.specs.Demand.{Opens}
+use Rattle.agreement.specs.Statements.{Words}
+use Rattle.agreement.proofs.Demands.{rules}
 use Rattle.agreement.proofs.Parties.{Fits, fits, seated}
-use Rattle.agreement.proofs.Readings.{Says, read}
+use Rattle.agreement.proofs.Readings.{Says, Reads}
 
 -- ---- what the record's bytes say
 
@@ -43,10 +45,6 @@ next (suc k) (suc n) (p ∷ ps) rest l h =
     let place : 7 * suc k ≡ 7 + 7 * k = omega arith in
     (later .0, ap (λ (j : ℕ). drop j (partyRecord p ++ more)) place ∙ drop-append-add (partyRecord p) more (7 * k) ∙ later .1)
 
--- the bytes of out say p of party i
-abbrev In : List ℕ → ℕ → Party → Type 0
-In out i p = Says p (statusIn out i) (stepsIn out i) (decisionIn out i)
-
 module _ (n : ℕ) (ps : List Party) (rest : List ℕ) (i : ℕ) (least : 1 ≤ i) (most : i ≤ n) (within : i ≤ length ps) where
   abbrev party : Party
   party = partyOf ps i
@@ -57,23 +55,23 @@ module _ (n : ℕ) (ps : List Party) (rest : List ℕ) (i : ℕ) (least : 1 ≤ 
   after : Next (i - 1) n ps rest
   after = next (i - 1) n ps rest (omega arith) (omega arith)
 
-  stands : drop (placeIn i) bytes ≡ partyRecord party ++ after .0
+  stands : drop (placeAfter (i - 1)) bytes ≡ partyRecord party ++ after .0
   stands = drop-append-add (recordHead n) (flat (map partyRecord (take n ps)) ++ rest) (7 * (i - 1)) ∙ after .1
 
-  says : Fits party → In bytes i party
+  says : Fits party → Says party (ofRecord bytes) i
   says f =
       record {
         status =
-            ap (λ (j : ℕ). getD bytes j 0) (sym (add-zero (placeIn i)))
-            ∙ sym (getD-drop (placeIn i) bytes 0 0)
+            ap (λ (j : ℕ). getD bytes j 0) (sym (add-zero (placeAfter (i - 1))))
+            ∙ sym (getD-drop (placeAfter (i - 1)) bytes 0 0)
             ∙ ap (λ (l : List ℕ). getD l 0 0) stands;
-        steps = sym (num-drop bytes (placeIn i) 1 2) ∙ ap (λ (l : List ℕ). num l 1 2) stands ∙ num-bytes 2 (party .steps) (f .steps);
-        decision = sym (num-drop bytes (placeIn i) 3 4) ∙ ap (λ (l : List ℕ). num l 3 4) stands ∙ num-bytes 4 (party .decision) (f .decision);
+        steps = sym (num-drop bytes (placeAfter (i - 1)) 1 2) ∙ ap (λ (l : List ℕ). num l 1 2) stands ∙ num-bytes 2 (party .steps) (f .steps);
+        decision = sym (num-drop bytes (placeAfter (i - 1)) 3 4) ∙ ap (λ (l : List ℕ). num l 3 4) stands ∙ num-bytes 4 (party .decision) (f .decision);
       }
 
--- ---- demand 3 in the record
+-- ---- the record of a run
 
-module _ (sheet proposals : List ℕ) (o : Opens sheet proposals) (words : (j : ℕ) → getD proposals j 0 < 2 ^ 32)
+module _ (sheet proposals : List ℕ) (o : Opens sheet proposals) (words : Words proposals)
     (schedule : List ℕ) (good : T (all (byteOk (partiesOf sheet)) schedule))
     (out : List ℕ) (room : recordLength (partiesOf sheet) ≤ length out) where
   abbrev n : ℕ
@@ -83,36 +81,14 @@ module _ (sheet proposals : List ℕ) (o : Opens sheet proposals) (words : (j : 
   s = ran sheet proposals schedule
 
   R : Reached sheet proposals s
-  R = reached sheet proposals o schedule good
+  R = obeyed-reached sheet proposals (rules o) here schedule good
 
-  answered : done ≡ runAnswer sheet proposals schedule (length out)
+  pub answered : done ≡ runAnswer sheet proposals schedule (length out)
   answered = run-done sheet proposals schedule out (opens sheet proposals (o .accepted) (o .count)) (first-none (byteOk n) 1 schedule good) room
 
-  module _ (i : ℕ) (least : 1 ≤ i) (most : i ≤ n) where
-    abbrev p : Party
-    p = partyOf (s .parties) i
-
-    shown : In (runOut sheet proposals schedule out) i p
-    shown =
-        subst (λ (l : List ℕ). In l i p) (out-written sheet proposals schedule out answered)
-        (says n (s .parties) (drop (recordLength n) out) i least most (seated sheet proposals (rules o) i least most R)
-        (fits sheet proposals o words R i least most))
-
-  of-run : OfRecord sheet proposals schedule out
-  of-run =
-      let after = runOut sheet proposals schedule out in
-      let r = read sheet proposals o schedule good (statusIn after) (stepsIn after) (decisionIn after) shown in
-      record {
-        done = sym answered;
-        holder = r .holder;
-        holderLeast = r .holderLeast;
-        holderMost = r .holderMost;
-        agreed = r .agreed;
-        announced = r .announced;
-        most = r .most;
-        decides = r .decides;
-        enough = r .enough;
-      }
-
-pub of-record : OfRun
-of-record = of-run
+  -- its bytes say the parties that the run comes to
+  pub reads-record : Reads n s (ofRecord (runOut sheet proposals schedule out))
+  reads-record i least most =
+      subst (λ (l : List ℕ). Says (partyOf (s .parties) i) (ofRecord l) i) (out-written sheet proposals schedule out answered)
+      (says n (s .parties) (drop (recordLength n) out) i least most (seated sheet proposals (rules o) i least most R)
+      (fits sheet proposals o R i least most words))

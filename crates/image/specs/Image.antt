@@ -1,5 +1,5 @@
 -- A session in 3,418 bytes, big-endian and without gaps: sheet copy 1,898; proposals 16 × 4; marks 1,024; published 256; parties 16 × 11.
-use Prim.Native.Nat.{ℕ, _*_, _/_, _%_, _^_, _<_}
+use Prim.Native.Nat.{ℕ, _*_, _/_, _%_, _^_, _<_, _+_, _-_}
 use mathlib.Core.Path.{_≡_}
 use mathlib.Core.List.{List, _∷_, _++_, map}
 use mathlib.Core.Bool.{_&&_, cond}
@@ -8,6 +8,7 @@ use lib.ListN.{length, getD, take, drop}
 use Rattle.sheet.specs.Lists.{from, flat}
 use Rattle.sheet.specs.Bytes.{num, bytesOf}
 use Rattle.state.specs.Session.{noParty}
+use Rattle.state.specs.Readings.{Readings}
 use Rattle.state.specs.declared.kept.Party.{Party}
 use Rattle.state.specs.declared.kept.Session.{Session}
 
@@ -62,6 +63,19 @@ sessionOf b =
       marks = take 1024 (drop 1962 b);
       published = take 256 (drop 2986 b);
       parties = partiesFrom (drop 3242 b);
+    }
+
+-- where party i's bytes stand: after 3,242 of the sheet, proposals, marks and published candidates, 11 for each party before it
+abbrev pub partyPlace : ℕ → ℕ
+partyPlace i = 3242 + 11 * (i - 1)
+
+-- what the bytes of a session say of each party
+abbrev pub ofImage : List ℕ → Readings
+ofImage b =
+    record {
+      status = λ i. getD b (partyPlace i) 0;
+      steps = λ i. num b (partyPlace i + 5) 2;
+      decision = λ i. num b (partyPlace i + 7) 4;
     }
 
 -- ---- sessions as the code holds them: numbers that fit their widths, lists as long as their arrays

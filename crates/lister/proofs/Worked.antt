@@ -4,7 +4,7 @@ use mathlib.Core.Path.{_≡_, refl}
 use mathlib.Core.List.{List, [], _∷_, _++_}
 use borrow.Author.Tests.{ne-eqb}
 use Rattle.sheet.specs.Lists.{firstBad}
-use Rattle.steps.specs.Step.{won, nextK, lowersWin, partyAfter, marksAfter, publishedAfter, step, stop}
+use Rattle.steps.specs.Step.{won, nextK, lowersWin, seen, partyAfter, marksAfter, publishedAfter, step, stop}
 use Rattle.steps.specs.Run.{byteOk}
 use Rattle.lister.specs.Text.{decimal, countsLine, partyLine, recordLine, listing, refusedText}
 use Rattle.lister.specs.Listed.{listed}
@@ -25,7 +25,7 @@ record-text = refl
 
 -- from the schedule
 pub worked-text : listed (2 ∷ 2 ∷ 1 ∷ 1 ∷ 1 ∷ 1 ∷ 1 ∷ 1 ∷ 1 ∷ []) ≡ threeLines
-unfolding decimal countsLine partyLine recordLine listing listed won nextK lowersWin partyAfter marksAfter publishedAfter step stop
+unfolding decimal countsLine partyLine recordLine listing listed won nextK lowersWin seen partyAfter marksAfter publishedAfter step stop
 worked-text = refl
 
 -- a refused schedule: the number is 8 and the position the index of the first bad byte

@@ -6,7 +6,7 @@ use mathlib.Core.Bool.{cond}
 use lib.ListN.{length, getD, take, drop}
 use lib.Dec.{ltb, eqb}
 use Rattle.sheet.specs.Lists.{from, flat}
-use Rattle.sheet.specs.Bytes.{num}
+use Rattle.record.specs.Record.{partiesIn, statusAfter, stepsAfter, decisionAfter}
 
 -- ---- words
 
@@ -71,16 +71,14 @@ partyLine party status steps decision =
 
 -- ---- the whole text
 
--- the line of the party after k others: its 7 bytes of the record are status (1), own steps (2), decision (4)
+-- the line of the party after k others
 unfoldable pub recordLine : List ℕ → ℕ → List ℕ
-recordLine bytes k =
-    let at = 4 + 7 * k in
-    partyLine (k + 1) (getD bytes at 0) (num bytes (at + 1) 2) (num bytes (at + 3) 4)
+recordLine bytes k = partyLine (k + 1) (statusAfter bytes k) (stepsAfter bytes k) (decisionAfter bytes k)
 
 -- the first line gives N and the schedule's length; then each party's
 unfoldable pub listing : List ℕ → ℕ → List ℕ
 listing bytes entries =
-    let n = getD bytes 3 0 in
+    let n = partiesIn bytes in
     countsLine partiesWord n entriesWord entries ++ flat (map (recordLine bytes) (from 0 n))
 
 -- a refusal's number and position

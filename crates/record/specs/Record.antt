@@ -1,9 +1,10 @@
 -- The record of a run: its length, its head, and each party's bytes.
-use Prim.Native.Nat.{ℕ, _+_, _*_}
+use Prim.Native.Nat.{ℕ, _+_, _-_, _*_}
 use mathlib.Core.List.{List, [], _∷_, _++_, map}
-use lib.ListN.{take}
+use lib.ListN.{getD, take}
 use Rattle.sheet.specs.Lists.{flat}
-use Rattle.sheet.specs.Bytes.{bytesOf}
+use Rattle.sheet.specs.Bytes.{num, bytesOf}
+use Rattle.state.specs.Readings.{Readings}
 use Rattle.state.specs.declared.kept.Party.{Party}
 
 -- each party in 7 bytes: status (1), own steps (2), decision (4, zero unless decided)
@@ -20,3 +21,32 @@ recordHead n = bytesOf 2 (recordLength n) ++ (1 ∷ n ∷ [])
 -- then the parties
 abbrev pub recordBytes : ℕ → List Party → List ℕ
 recordBytes n parties = recordHead n ++ flat (map partyRecord (take n parties))
+
+-- ---- a record read
+
+-- N
+abbrev pub partiesIn : List ℕ → ℕ
+partiesIn bytes = getD bytes 3 0
+
+-- where the bytes of the party after k others stand
+abbrev pub placeAfter : ℕ → ℕ
+placeAfter k = 4 + 7 * k
+
+-- its status, own steps and decision
+abbrev pub statusAfter : List ℕ → ℕ → ℕ
+statusAfter bytes k = getD bytes (placeAfter k) 0
+
+abbrev pub stepsAfter : List ℕ → ℕ → ℕ
+stepsAfter bytes k = num bytes (placeAfter k + 1) 2
+
+abbrev pub decisionAfter : List ℕ → ℕ → ℕ
+decisionAfter bytes k = num bytes (placeAfter k + 3) 4
+
+-- what a record says of each party
+abbrev pub ofRecord : List ℕ → Readings
+ofRecord bytes =
+    record {
+      status = λ i. statusAfter bytes (i - 1);
+      steps = λ i. stepsAfter bytes (i - 1);
+      decision = λ i. decisionAfter bytes (i - 1);
+    }

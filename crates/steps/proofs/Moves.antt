@@ -40,6 +40,28 @@ moves-on R none = sym (append-nil (movesOn R))
 moves-on R (more (stepOf i) {ms} o os) = moves-on (by-step i (o .0) (o .1) R) os ∙ append-assoc (movesOn R) (stepOf i ∷ []) ms
 moves-on R (more (stopOf i) {ms} o os) = moves-on (by-stop i (o .0) (o .1) R) os ∙ append-assoc (movesOn R) (stopOf i ∷ []) ms
 
+-- ---- the moves on a way lead where it leads
+
+moved-append : (s : Session) (a b : List Move) → movedBy s (a ++ b) ≡ movedBy (movedBy s a) b
+moved-append s [] b = refl
+moved-append s (m ∷ a) b = moved-append (moved s m) a b
+
+pub moves-back : {n : ℕ} {s t : Session} (R : Leads n s t) → movedBy s (movesOn R) ≡ t
+unfolding movesOn
+moves-back here = refl
+moves-back {s = s} (by-step i least most R) = moved-append s (movesOn R) (stepOf i ∷ []) ∙ ap (λ (t : Session). step t i) (moves-back R)
+moves-back {s = s} (by-stop i least most R) = moved-append s (movesOn R) (stopOf i ∷ []) ∙ ap (λ (t : Session). stop t i) (moves-back R)
+
+ofs-more : {n : ℕ} {ms : List Move} → Ofs n ms → (m : Move) → OfParty n m → Ofs n (ms ++ (m ∷ []))
+ofs-more none m o = more m o none
+ofs-more (more k p os) m o = more k p (ofs-more os m o)
+
+pub moves-ofs : {n : ℕ} {s t : Session} (R : Leads n s t) → Ofs n (movesOn R)
+unfolding movesOn
+moves-ofs here = none
+moves-ofs (by-step i least most R) = ofs-more (moves-ofs R) (stepOf i) (least, most)
+moves-ofs (by-stop i least most R) = ofs-more (moves-ofs R) (stopOf i) (least, most)
+
 -- ---- a schedule
 
 pub entry-moved : (s : Session) (b : ℕ) → entry s b ≡ moved s (moveOf b)

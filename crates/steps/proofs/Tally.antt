@@ -22,11 +22,12 @@ use Rattle.steps.specs.Step.{placeActed, step, stoppedParty, stop}
 use Rattle.steps.specs.Moves.{Move, stepOf, stopOf, whose, moved, movedBy}
 use Rattle.steps.specs.Run.{byteOk, movesIn, ran}
 use Rattle.steps.specs.Trace.{isAct, acts}
+use Rattle.steps.specs.Reach.{movesOn}
 use Rattle.steps.proofs.Landing.{party-set}
 use Rattle.steps.proofs.Changes.{step-live}
 use Rattle.steps.proofs.Turns.{step-none, step-other, stop-other}
 use Rattle.steps.proofs.Reached.{Reached, here, reached-kept, reached-parties, reached-well-formed}
-use Rattle.steps.proofs.Moves.{OfParty, Ofs, none, more, move-leads, of-parties, obeyed-moved}
+use Rattle.steps.proofs.Moves.{OfParty, Ofs, none, more, move-leads, moves-back, moves-ofs, of-parties, obeyed-moved}
 
 -- a party's own steps
 abbrev stepsOf : Session → ℕ → ℕ
@@ -104,6 +105,10 @@ module _ (sheet proposals : List ℕ) (rules : Rules6 sheet) (count : length pro
       let none = ap (λ (q : Party). q .steps) (fresh-party n i least most) in
       let all = tallied here os in
       omega arith
+
+  -- those of a reached session are the acts on its way
+  pub way-acts : {s : Session} (R : Reached sheet proposals s) → partyOf (s .parties) i .steps ≡ acts (freshSession sheet proposals n) (movesOn R) i
+  way-acts R = ap (λ (s : Session). stepsOf s i) (sym (moves-back R)) ∙ moves-acts (moves-ofs R)
 
   -- the own steps that a run comes to are the acts of its schedule
   pub steps-acts : (schedule : List ℕ) → T (all (byteOk n) schedule)
