@@ -22,7 +22,7 @@ mod raw;
 mod raw;
 
 use crate::crash;
-use guard::Guarded;
+use guard::{Guarded, Lent};
 
 /// What stands on the library side.
 #[derive(Clone, Copy, Debug, PartialEq, Eq)]
@@ -56,9 +56,9 @@ fn guarded<const READ: usize>(
     numbers: [u32; 3],
     read: [Named<&[u8]>; READ],
     (written_name, written): Named<&mut [u8]>,
-    call: impl FnOnce([&[u8]; READ], &mut [u8]) -> u64,
+    call: impl FnOnce([Lent; READ], Lent) -> u64,
 ) -> Reply {
-    let lent_read = read.map(|(name, part)| Guarded::new(name, part));
+    let mut lent_read = read.map(|(name, part)| Guarded::new(name, part));
     let mut lent = Guarded::new(written_name, written);
     let mut parts = [crash::lent("", &[]); 4];
     for (noted, (name, part)) in parts.iter_mut().zip(read) {
@@ -66,8 +66,7 @@ fn guarded<const READ: usize>(
     }
     parts[READ] = crash::lent(written_name, written);
     crash::enter(name, numbers, parts);
-    let contents = std::array::from_fn(|at| lent_read[at].content());
-    let answer = call(contents, lent.content_mut());
+    let answer = call(lent_read.each_mut().map(Guarded::lend), lent.lend());
     crash::leave();
     written.copy_from_slice(lent.content());
     let fault = lent_read
@@ -87,8 +86,7 @@ pub fn check(sheet: &[u8]) -> Reply {
         [0; 3],
         [("sheet", sheet)],
         nothing,
-        // SAFETY: in all of these calls each pointer and length describe a slice.
-        |[sheet], _| unsafe { raw::sepalsail_check(sheet.as_ptr(), sheet.len()) },
+        |[sheet], _| in_place::check(sheet.bytes()),
     )
 }
 
@@ -100,9 +98,7 @@ pub fn build(kind: u32, bound: u32, parties: u32, out: &mut [u8]) -> Reply {
         [kind, bound, parties],
         [],
         ("out", out),
-        |[], out| unsafe {
-            raw::sepalsail_build(kind, bound, parties, out.as_mut_ptr(), out.len())
-        },
+        |[], mut out| in_place::build([kind, bound, parties], out.bytes_mut()),
     )
 }
 
@@ -114,15 +110,8 @@ pub fn open(sheet: &[u8], proposals: &[u8], session: &mut [u8]) -> Reply {
         [0; 3],
         [("sheet", sheet), ("proposals", proposals)],
         ("session", session),
-        |[sheet, proposals], session| unsafe {
-            raw::sepalsail_open(
-                sheet.as_ptr(),
-                sheet.len(),
-                proposals.as_ptr(),
-                proposals.len(),
-                session.as_mut_ptr(),
-                session.len(),
-            )
+        |[sheet, proposals], mut session| {
+            in_place::open(sheet.bytes(), proposals.bytes(), session.bytes_mut())
         },
     )
 }
@@ -135,7 +124,7 @@ pub fn step(session: &mut [u8], party: u32) -> Reply {
         [party, 0, 0],
         [],
         ("session", session),
-        |[], session| unsafe { raw::sepalsail_step(session.as_mut_ptr(), session.len(), party) },
+        |[], mut session| in_place::step(session.bytes_mut(), party),
     )
 }
 
@@ -147,7 +136,7 @@ pub fn stop(session: &mut [u8], party: u32) -> Reply {
         [party, 0, 0],
         [],
         ("session", session),
-        |[], session| unsafe { raw::sepalsail_stop(session.as_mut_ptr(), session.len(), party) },
+        |[], mut session| in_place::stop(session.bytes_mut(), party),
     )
 }
 
@@ -160,7 +149,7 @@ pub fn live(session: &[u8]) -> Reply {
         [0; 3],
         [("session", session)],
         nothing,
-        |[session], _| unsafe { raw::sepalsail_live(session.as_ptr(), session.len()) },
+        |[session], _| in_place::live(session.bytes()),
     )
 }
 
@@ -176,7 +165,14 @@ pub fn run(sheet: &[u8], proposals: &[u8], schedule: &[u8], out: &mut [u8]) -> R
             ("schedule", schedule),
         ],
         ("out", out),
-        |[sheet, proposals, schedule], out| in_place::run(sheet, proposals, schedule, out),
+        |[sheet, proposals, schedule], mut out| {
+            in_place::run(
+                sheet.bytes(),
+                proposals.bytes(),
+                schedule.bytes(),
+                out.bytes_mut(),
+            )
+        },
     )
 }
 
@@ -188,6 +184,8 @@ pub fn run_uncopied(sheet: &[u8], proposals: &[u8], schedule: &[u8], out: &mut [
         [0; 3],
         [("sheet", sheet), ("proposals", proposals)],
         ("out", out),
-        |[sheet, proposals], out| in_place::run(sheet, proposals, schedule, out),
+        |[sheet, proposals], mut out| {
+            in_place::run(sheet.bytes(), proposals.bytes(), schedule, out.bytes_mut())
+        },
     )
 }
