@@ -3,12 +3,13 @@
 //!
 //!     compare [--seconds N] [--seed S] [--only sheets|sessions|runs|lister|huge] [--lister PATH]
 //!
-//! The fixed cases of each kind are run once and whole; random cases follow, some of each group
-//! in any case, until N seconds have passed since the start. Schedules of 2^32 bytes (`huge`, some
-//! minutes) are run only if asked for and whatever the time; `--lister` compares what the lister
-//! program at that path prints. The last line is `N passed, M failed`: groups of cases that were compared without a
-//! difference, and groups with a difference or without a case. With M above 0 the program ends
-//! with 1, after a crash or a wrong command line with another number above 0.
+//! Some random cases of each group come first, in any case; then the fixed cases of each kind,
+//! once and whole; then random cases until N seconds have passed since the start. Schedules of
+//! 2^32 bytes (`huge`, some minutes) are run only if asked for and whatever the time; `--lister`
+//! compares what the lister program at that path prints. The last line is `N passed, M failed`:
+//! groups of cases that were compared without a difference, and groups with a difference or
+//! without a case. With M above 0 the program ends with 1, after a crash or a wrong command line
+//! with another number above 0.
 
 use compare::crash;
 use compare::ffi::{Linked, LINKED};
@@ -26,8 +27,8 @@ const _: &[u8] = include_bytes!(env!("SEPALSAIL_ARCHIVE"));
 const USAGE: &str = "compare [--seconds N] [--seed S] \
                      [--only sheets|sessions|runs|lister|huge] [--lister PATH]";
 
-/// How many slices of random cases are run even if the time is over (some seconds).
-const FEWEST_SLICES: u32 = 300;
+/// How many slices of random cases come first, whatever the time (some seconds).
+const FIRST_SLICES: u32 = 300;
 
 /// What the command line asks for.
 struct Wanted {
@@ -117,19 +118,24 @@ fn chosen(wanted: &Wanted, judge: &mut Judge) -> Vec<Box<dyn Cases>> {
     all
 }
 
-/// Runs the fixed parts, then slices of the random parts until the time is over.
+/// Runs some slices of the random parts, so that every group is met early, then the fixed parts,
+/// then slices of the random parts until the time is over.
 fn compare(all: &mut [Box<dyn Cases>], judge: &mut Judge) -> Going<()> {
+    for _ in 0..FIRST_SLICES {
+        slice(all, judge)?;
+    }
     for cases in all.iter_mut() {
         cases.fixed(judge)?;
     }
-    let mut slices = 0;
-    while slices < FEWEST_SLICES || !judge.over() {
-        for cases in all.iter_mut() {
-            cases.random(judge)?;
-        }
-        slices += 1;
+    while !judge.over() {
+        slice(all, judge)?;
     }
     Ok(())
+}
+
+/// A slice of the random parts.
+fn slice(all: &mut [Box<dyn Cases>], judge: &mut Judge) -> Going<()> {
+    all.iter_mut().try_for_each(|cases| cases.random(judge))
 }
 
 fn main() -> ExitCode {
