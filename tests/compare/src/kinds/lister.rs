@@ -15,6 +15,7 @@ pub struct Lister {
     good: Group,
     refused: Group,
     long: Group,
+    limit: Group,
 }
 
 impl Lister {
@@ -26,15 +27,23 @@ impl Lister {
             good: group("lister, good schedules"),
             refused: group("lister, schedules with a bad byte"),
             long: group("lister, schedules of about 4,096 bytes"),
+            limit: group("lister, last byte acts before and past 4,096"),
         }
     }
 
-    /// The document's example, no input, and each single byte.
+    /// The document's example, no input, each single byte, and the only entry of a party just
+    /// before and just past the limit.
     pub fn fixed(&self, judge: &mut Judge) -> Going<()> {
         self.print(judge, self.fixed, &[2, 2, 1, 1, 1, 1, 1, 1, 1])?;
         self.print(judge, self.fixed, &[])?;
         for byte in 0..=255 {
             self.print(judge, self.fixed, &[byte])?;
+        }
+        for length in [4094, 4095, 4096, 4097] {
+            for last in [2, 130] {
+                let input = [vec![1; length], vec![last]].concat();
+                self.print(judge, self.limit, &input)?;
+            }
         }
         Ok(())
     }

@@ -27,6 +27,7 @@ pub struct Runs {
     all_schedules: Group,
     all_acting: Group,
     far_byte: Group,
+    far_entry: Group,
     long: Group,
 }
 
@@ -48,6 +49,7 @@ impl Runs {
             all_schedules: group("run, all schedules of N = 2 up to length 8"),
             all_acting: group("run, all schedules of N = 2 that act, to the end"),
             far_byte: group("run, bad byte around 2^8, 2^16 and 2^24"),
+            far_entry: group("run, last byte acts around 2^8, 2^16 and 2^24"),
             long: group("run, schedules of up to 260,000 bytes"),
         }
     }
@@ -193,7 +195,8 @@ impl Runs {
         Ok(())
     }
 
-    /// A bad byte at indexes whose numbers of bytes differ, and the same schedule without it.
+    /// A bad byte at indexes whose numbers of bytes differ, and the same schedule without it; and
+    /// there the only entry of a party, behind those of one that has long decided.
     fn far_bytes(&self, judge: &mut Judge) -> Going<()> {
         let (sheet, proposals) = two_parties();
         for at in [
@@ -212,6 +215,11 @@ impl Runs {
             let given = judge.run(self.far_byte, &sheet, &proposals, &schedule, 18)?;
             let what = "a bad byte far away";
             judge.expect(given == (8, at as u32), self.far_byte, what, &[])?;
+            schedule.fill(1);
+            for last in [2, 130] {
+                schedule[at] = last;
+                judge.run(self.far_entry, &sheet, &proposals, &schedule, 18)?;
+            }
         }
         Ok(())
     }
