@@ -1,7 +1,7 @@
 //! The cases of the run and its record.
 
 use crate::judge::{Going, Judge};
-use crate::make::{damage, schedules, sessions, sheets};
+use crate::make::{damage, schedules, sessions, sheets, Draft};
 use crate::model::layout::party_at;
 use crate::model::run::record_length;
 use crate::model::session::DECIDED;
@@ -22,6 +22,7 @@ pub struct Runs {
     proposals: Group,
     sheet: Group,
     several: Group,
+    rows: Group,
     worked: Group,
     every_byte: Group,
     all_schedules: Group,
@@ -44,6 +45,7 @@ impl Runs {
             proposals: group("run, proposals of a wrong length"),
             sheet: group("run, sheet damaged"),
             several: group("run, several faults at once"),
+            rows: group("run, sheet refused at each row, N = 16"),
             worked: group("run, the schedules of P1 to P9"),
             every_byte: group("run, each byte alone and behind a good one"),
             all_schedules: group("run, all schedules of N = 2 up to length 8"),
@@ -57,6 +59,7 @@ impl Runs {
     /// The cases that are run once and whole.
     pub fn fixed(&self, judge: &mut Judge) -> Going<()> {
         self.worked_cases(judge)?;
+        self.each_row(judge)?;
         self.each_byte(judge)?;
         self.each_schedule(judge)?;
         self.each_acting_schedule(judge)?;
@@ -135,6 +138,17 @@ impl Runs {
                 let part = &schedule[..length];
                 judge.run(self.worked, &sheet, &proposals, part, exact)?;
             }
+        }
+        Ok(())
+    }
+
+    /// The largest sheet with refusals 5 and 6 at each row.
+    fn each_row(&self, judge: &mut Judge) -> Going<()> {
+        let bytes = sheet::built(2, 31, 16).expect("P10 gives it");
+        let proposals = schedules::proposals(&mut judge.rng, 16);
+        for damaged in damage::at_each_row(&Draft::read(&bytes)) {
+            let exact = record_length(16);
+            judge.run(self.rows, &damaged, &proposals, &[1], exact)?;
         }
         Ok(())
     }
