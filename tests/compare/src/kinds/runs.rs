@@ -23,6 +23,7 @@ pub struct Runs {
     sheet: Group,
     several: Group,
     rows: Group,
+    in_turn: Group,
     worked: Group,
     every_byte: Group,
     all_schedules: Group,
@@ -46,6 +47,7 @@ impl Runs {
             sheet: group("run, sheet damaged"),
             several: group("run, several faults at once"),
             rows: group("run, sheet refused at each row, N = 16"),
+            in_turn: group("run, all parties in turn to the end, each N"),
             worked: group("run, the schedules of P1 to P9"),
             every_byte: group("run, each byte alone and behind a good one"),
             all_schedules: group("run, all schedules of N = 2 up to length 8"),
@@ -60,6 +62,7 @@ impl Runs {
     pub fn fixed(&self, judge: &mut Judge) -> Going<()> {
         self.worked_cases(judge)?;
         self.each_row(judge)?;
+        self.in_turn(judge)?;
         self.each_byte(judge)?;
         self.each_schedule(judge)?;
         self.each_acting_schedule(judge)?;
@@ -149,6 +152,29 @@ impl Runs {
         for damaged in damage::at_each_row(&Draft::read(&bytes)) {
             let exact = record_length(16);
             judge.run(self.rows, &damaged, &proposals, &[1], exact)?;
+        }
+        Ok(())
+    }
+
+    /// All parties in turn, upwards and downwards, until all have decided: party 1 then has nearly
+    /// as many own steps as it can have, for N = 16 more than fit one byte.
+    fn in_turn(&self, judge: &mut Judge) -> Going<()> {
+        for parties in 1..=16u8 {
+            let sheet = sheet::built(2, 31, u32::from(parties)).expect("31 is large enough");
+            let n = usize::from(parties);
+            let proposals = schedules::proposals(&mut judge.rng, n);
+            let up: Vec<u8> = (1..=parties).collect();
+            let down: Vec<u8> = (1..=parties).rev().collect();
+            for turn in [up, down] {
+                let schedule = turn.repeat((n + 1) * (n + 1));
+                judge.run(
+                    self.in_turn,
+                    &sheet,
+                    &proposals,
+                    &schedule,
+                    record_length(n),
+                )?;
+            }
         }
         Ok(())
     }
