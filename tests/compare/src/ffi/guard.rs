@@ -102,4 +102,10 @@ impl Lent<'_> {
         // SAFETY: as above.
         unsafe { std::slice::from_raw_parts_mut(self.first, self.length) }
     }
+
+    /// The first byte past the content, a guard.
+    pub fn past_end(&mut self) -> &mut u8 {
+        // SAFETY: guards follow the content.
+        unsafe { &mut *self.first.add(self.length) }
+    }
 }

@@ -2,6 +2,8 @@
 //! between guard bytes, at a changing alignment; after the call the guards and everything lent
 //! only for reading must be unchanged.
 //!
+//! This is where a turned library stands in front of the true one, if one was chosen.
+//!
 //! The library side is the archive of SEPALSAIL_LIB; with the feature `model-only` it is the
 //! model itself; with neither it is missing, and `LINKED` says so. It is missing too in this
 //! crate's own tests, which are of the model alone.
@@ -22,7 +24,10 @@ mod raw;
 mod raw;
 
 use crate::crash;
-use guard::{Guarded, Lent};
+use crate::turned::{chosen, Call};
+use guard::Guarded;
+
+pub use guard::Lent;
 
 /// What stands on the library side.
 #[derive(Clone, Copy, Debug, PartialEq, Eq)]
@@ -86,7 +91,10 @@ pub fn check(sheet: &[u8]) -> Reply {
         [0; 3],
         [("sheet", sheet)],
         nothing,
-        |[sheet], _| in_place::check(sheet.bytes()),
+        |[mut sheet], _| match chosen() {
+            Some(Call::Check(turned)) => turned(&mut sheet),
+            _ => in_place::check(sheet.bytes()),
+        },
     )
 }
 
@@ -98,7 +106,10 @@ pub fn build(kind: u32, bound: u32, parties: u32, out: &mut [u8]) -> Reply {
         [kind, bound, parties],
         [],
         ("out", out),
-        |[], mut out| in_place::build([kind, bound, parties], out.bytes_mut()),
+        |[], mut out| match chosen() {
+            Some(Call::Build(turned)) => turned([kind, bound, parties], &mut out),
+            _ => in_place::build([kind, bound, parties], out.bytes_mut()),
+        },
     )
 }
 
@@ -110,8 +121,9 @@ pub fn open(sheet: &[u8], proposals: &[u8], session: &mut [u8]) -> Reply {
         [0; 3],
         [("sheet", sheet), ("proposals", proposals)],
         ("session", session),
-        |[sheet, proposals], mut session| {
-            in_place::open(sheet.bytes(), proposals.bytes(), session.bytes_mut())
+        |[mut sheet, mut proposals], mut session| match chosen() {
+            Some(Call::Open(turned)) => turned(&mut sheet, &mut proposals, &mut session),
+            _ => in_place::open(sheet.bytes(), proposals.bytes(), session.bytes_mut()),
         },
     )
 }
@@ -124,7 +136,10 @@ pub fn step(session: &mut [u8], party: u32) -> Reply {
         [party, 0, 0],
         [],
         ("session", session),
-        |[], mut session| in_place::step(session.bytes_mut(), party),
+        |[], mut session| match chosen() {
+            Some(Call::Step(turned)) => turned(&mut session, party),
+            _ => in_place::step(session.bytes_mut(), party),
+        },
     )
 }
 
@@ -136,7 +151,10 @@ pub fn stop(session: &mut [u8], party: u32) -> Reply {
         [party, 0, 0],
         [],
         ("session", session),
-        |[], mut session| in_place::stop(session.bytes_mut(), party),
+        |[], mut session| match chosen() {
+            Some(Call::Stop(turned)) => turned(&mut session, party),
+            _ => in_place::stop(session.bytes_mut(), party),
+        },
     )
 }
 
@@ -149,7 +167,10 @@ pub fn live(session: &[u8]) -> Reply {
         [0; 3],
         [("session", session)],
         nothing,
-        |[session], _| in_place::live(session.bytes()),
+        |[mut session], _| match chosen() {
+            Some(Call::Live(turned)) => turned(&mut session),
+            _ => in_place::live(session.bytes()),
+        },
     )
 }
 
@@ -165,14 +186,7 @@ pub fn run(sheet: &[u8], proposals: &[u8], schedule: &[u8], out: &mut [u8]) -> R
             ("schedule", schedule),
         ],
         ("out", out),
-        |[sheet, proposals, schedule], mut out| {
-            in_place::run(
-                sheet.bytes(),
-                proposals.bytes(),
-                schedule.bytes(),
-                out.bytes_mut(),
-            )
-        },
+        |[sheet, proposals, schedule], out| run_lent(sheet, proposals, schedule.bytes(), out),
     )
 }
 
@@ -184,8 +198,15 @@ pub fn run_uncopied(sheet: &[u8], proposals: &[u8], schedule: &[u8], out: &mut [
         [0; 3],
         [("sheet", sheet), ("proposals", proposals)],
         ("out", out),
-        |[sheet, proposals], mut out| {
-            in_place::run(sheet.bytes(), proposals.bytes(), schedule, out.bytes_mut())
-        },
+        |[sheet, proposals], out| run_lent(sheet, proposals, schedule, out),
     )
+}
+
+/// The run on what lies between guards, and a schedule.
+#[cfg(feature = "runs")]
+fn run_lent(mut sheet: Lent, mut proposals: Lent, schedule: &[u8], mut out: Lent) -> u64 {
+    match chosen() {
+        Some(Call::Run(turned)) => turned(&mut sheet, &mut proposals, schedule, &mut out),
+        _ => in_place::run(sheet.bytes(), proposals.bytes(), schedule, out.bytes_mut()),
+    }
 }

@@ -4,6 +4,7 @@ use crate::judge::{Going, Judge, Stop};
 use crate::make::schedules;
 use crate::model::run::lister;
 use crate::tally::{Group, Kind};
+use crate::turned::{chosen, Call};
 use std::io::Write;
 use std::path::PathBuf;
 use std::process::{Command, Stdio};
@@ -67,9 +68,14 @@ impl Lister {
         self.print(judge, self.long, &long)
     }
 
-    /// Compares what the program prints with what it should print.
+    /// Compares what the program, or a turned one in front of it, prints with what it should
+    /// print.
     fn print(&self, judge: &mut Judge, group: Group, input: &[u8]) -> Going<()> {
-        let printed = self.output(input).map_err(|why| {
+        let printed = match chosen() {
+            Some(Call::Lister(turned)) => turned(input, &|input| self.output(input)),
+            _ => self.output(input),
+        };
+        let printed = printed.map_err(|why| {
             println!("{}: {why}", self.path.display());
             Stop
         })?;
