@@ -2,19 +2,27 @@
 //! library, and stops with a full report at the first difference.
 //!
 //!     compare [--seconds N] [--seed S] [--only sheets|sessions|runs|lister|huge] [--lister PATH]
+//!             [--turned NAME|list]
 //!
-//! The fixed cases of each kind are run once and whole; random cases follow, some of each group
-//! in any case, until N seconds have passed since the start. Schedules of 2^32 bytes (`huge`, some
-//! minutes) are run only if asked for and whatever the time; `--lister` compares what the lister
-//! program at that path prints. The last line is `N passed, M failed`: groups of cases that were compared without a
-//! difference, and groups with a difference or without a case. With M above 0 the program ends
-//! with 1, after a crash or a wrong command line with another number above 0.
+//! Some random cases of each group come first, in any case; then the fixed cases of each kind,
+//! once and whole; then random cases until N seconds have passed since the start. Schedules of
+//! 2^32 bytes (`huge`, some minutes) are run only if asked for and whatever the time; `--lister`
+//! compares what the lister program at that path prints. The last line is `N passed, M failed`:
+//! groups of cases that were compared without a difference, and groups with a difference or
+//! without a case. With M above 0 the program ends with 1, after a crash or a wrong command line
+//! with another number above 0.
+//!
+//! `--turned NAME` has a library with one rule turned compared instead, by the cases of the kind
+//! that makes the turned call: the program ends with 1 where it found a difference in that call,
+//! and says by which case; with 0 where it found none; with another number above 0 in any other
+//! event. `--turned list` prints each name, its call, and what is turned.
 
 use compare::crash;
 use compare::ffi::{Linked, LINKED};
 use compare::judge::{Going, Judge};
 use compare::kinds;
 use compare::tally::Kind;
+use compare::turned::{self, Turned};
 use std::path::PathBuf;
 use std::process::ExitCode;
 use std::time::{SystemTime, UNIX_EPOCH};
@@ -24,10 +32,11 @@ use std::time::{SystemTime, UNIX_EPOCH};
 const _: &[u8] = include_bytes!(env!("SEPALSAIL_ARCHIVE"));
 
 const USAGE: &str = "compare [--seconds N] [--seed S] \
-                     [--only sheets|sessions|runs|lister|huge] [--lister PATH]";
+                     [--only sheets|sessions|runs|lister|huge] [--lister PATH] \
+                     [--turned NAME|list]";
 
-/// How many slices of random cases are run even if the time is over (some seconds).
-const FEWEST_SLICES: u32 = 300;
+/// How many slices of random cases come first, whatever the time (some seconds).
+const FIRST_SLICES: u32 = 300;
 
 /// What the command line asks for.
 struct Wanted {
@@ -35,6 +44,8 @@ struct Wanted {
     seed: u64,
     only: Option<Kind>,
     lister: Option<PathBuf>,
+    turned: Option<Turned>,
+    list: bool,
 }
 
 /// Reads the command line.
@@ -45,6 +56,8 @@ fn wanted() -> Result<Wanted, String> {
         seed: now.map_or(1, |since| since.as_nanos() as u64),
         only: None,
         lister: None,
+        turned: None,
+        list: false,
     };
     let mut words = std::env::args().skip(1);
     while let Some(word) = words.next() {
@@ -57,8 +70,21 @@ fn wanted() -> Result<Wanted, String> {
                 wanted.only = Some(kind.ok_or("bad --only")?);
             }
             "--lister" => wanted.lister = Some(PathBuf::from(value)),
+            "--turned" if value == "list" => wanted.list = true,
+            "--turned" => {
+                let turned = turned::all().into_iter().find(|known| known.name == value);
+                wanted.turned = Some(turned.ok_or("bad --turned")?);
+            }
             _ => return Err(format!("unknown {word}")),
         }
+    }
+    if let Some(turned) = wanted.turned {
+        // A turned call is met by the cases of its own kind.
+        let kind = turned.call.kind();
+        if wanted.only.is_some_and(|only| only != kind) {
+            return Err(format!("{} needs --only {}", turned.name, kind.name()));
+        }
+        wanted.only = Some(kind);
     }
     Ok(wanted)
 }
@@ -117,19 +143,24 @@ fn chosen(wanted: &Wanted, judge: &mut Judge) -> Vec<Box<dyn Cases>> {
     all
 }
 
-/// Runs the fixed parts, then slices of the random parts until the time is over.
+/// Runs some slices of the random parts, so that every group is met early, then the fixed parts,
+/// then slices of the random parts until the time is over.
 fn compare(all: &mut [Box<dyn Cases>], judge: &mut Judge) -> Going<()> {
+    for _ in 0..FIRST_SLICES {
+        slice(all, judge)?;
+    }
     for cases in all.iter_mut() {
         cases.fixed(judge)?;
     }
-    let mut slices = 0;
-    while slices < FEWEST_SLICES || !judge.over() {
-        for cases in all.iter_mut() {
-            cases.random(judge)?;
-        }
-        slices += 1;
+    while !judge.over() {
+        slice(all, judge)?;
     }
     Ok(())
+}
+
+/// A slice of the random parts.
+fn slice(all: &mut [Box<dyn Cases>], judge: &mut Judge) -> Going<()> {
+    all.iter_mut().try_for_each(|cases| cases.random(judge))
 }
 
 fn main() -> ExitCode {
@@ -140,6 +171,12 @@ fn main() -> ExitCode {
             return ExitCode::from(2);
         }
     };
+    if wanted.list {
+        for turned in turned::all() {
+            println!("{} {} {}", turned.name, turned.call.name(), turned.what);
+        }
+        return ExitCode::SUCCESS;
+    }
     println!("seed {}", wanted.seed);
     match LINKED {
         Linked::Archive(path) => println!("library {path}"),
@@ -149,6 +186,10 @@ fn main() -> ExitCode {
             println!("0 passed, 1 failed");
             return ExitCode::from(2);
         }
+    }
+    if let Some(turned) = wanted.turned {
+        println!("turned {}: {}", turned.name, turned.what);
+        turned::choose(turned);
     }
     crash::install();
     let mut judge = Judge::new(wanted.seed, wanted.seconds);
@@ -161,5 +202,31 @@ fn main() -> ExitCode {
     // A difference has been reported where it was found; the count follows in either case.
     let _ = compare(&mut all, &mut judge);
     let failed = judge.tally.print();
-    ExitCode::from(u8::from(failed > 0))
+    match wanted.turned {
+        Some(turned) => verdict(turned, &judge, failed),
+        None => ExitCode::from(u8::from(failed > 0)),
+    }
+}
+
+/// What became of a library with a rule turned.
+fn verdict(turned: Turned, judge: &Judge, failed: usize) -> ExitCode {
+    let name = turned.name;
+    match judge.found() {
+        Some(found) if found.call == turned.call.name() => {
+            let (case, group) = (found.case, found.group);
+            println!("{name}: found in {} by case {case}: {group}", found.call);
+            ExitCode::from(1)
+        }
+        Some(found) => {
+            println!(
+                "{name}: a difference in {}, which is not turned",
+                found.call
+            );
+            ExitCode::from(4)
+        }
+        None => {
+            println!("{name}: not found");
+            ExitCode::from(if failed > 0 { 4 } else { 0 })
+        }
+    }
 }

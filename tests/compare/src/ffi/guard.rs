@@ -1,6 +1,7 @@
 //! Buffers between guard bytes, at a changing alignment.
 
 use std::cell::Cell;
+use std::marker::PhantomData;
 
 /// How many guard bytes lie on each side of a buffer.
 const GUARD: usize = 48;
@@ -50,8 +51,14 @@ impl Guarded {
         &self.bytes[self.at..self.at + self.length]
     }
 
-    pub fn content_mut(&mut self) -> &mut [u8] {
-        &mut self.bytes[self.at..self.at + self.length]
+    /// The content as it is lent to a call.
+    pub fn lend(&mut self) -> Lent<'_> {
+        Lent {
+            // SAFETY: `at` is an index of the bytes.
+            first: unsafe { self.bytes.as_mut_ptr().add(self.at) },
+            length: self.length,
+            guarded: PhantomData,
+        }
     }
 
     /// What is wrong with the guards, and with the content if it was lent only for reading.
@@ -74,5 +81,31 @@ impl Guarded {
             )),
             _ => None,
         }
+    }
+}
+
+/// What a call is lent: an address and a length. The call could write to all of it, whatever it
+/// was lent for, and to the guards beside it; `fault` and the comparison show where it did.
+pub struct Lent<'a> {
+    first: *mut u8,
+    length: usize,
+    guarded: PhantomData<&'a mut Guarded>,
+}
+
+impl Lent<'_> {
+    pub fn bytes(&self) -> &[u8] {
+        // SAFETY: the content, which is borrowed as long as this is.
+        unsafe { std::slice::from_raw_parts(self.first, self.length) }
+    }
+
+    pub fn bytes_mut(&mut self) -> &mut [u8] {
+        // SAFETY: as above.
+        unsafe { std::slice::from_raw_parts_mut(self.first, self.length) }
+    }
+
+    /// The first byte past the content, a guard.
+    pub fn past_end(&mut self) -> &mut u8 {
+        // SAFETY: guards follow the content.
+        unsafe { &mut *self.first.add(self.length) }
     }
 }

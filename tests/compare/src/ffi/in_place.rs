@@ -1,4 +1,4 @@
-//! Calls on slices as they lie, without guards, for the bench and for `super::run`.
+//! The calls on slices as they lie, without guards. Nothing else calls the library.
 
 use super::raw;
 
@@ -26,6 +26,29 @@ pub fn run(sheet: &[u8], proposals: &[u8], schedule: &[u8], out: &mut [u8]) -> u
 #[inline]
 pub fn check(sheet: &[u8]) -> u64 {
     unsafe { raw::sepalsail_check(sheet.as_ptr(), sheet.len()) }
+}
+
+/// The builder.
+#[cfg(feature = "sheets")]
+#[inline]
+pub fn build([kind, bound, parties]: [u32; 3], out: &mut [u8]) -> u64 {
+    unsafe { raw::sepalsail_build(kind, bound, parties, out.as_mut_ptr(), out.len()) }
+}
+
+/// The open call.
+#[cfg(feature = "sessions")]
+#[inline]
+pub fn open(sheet: &[u8], proposals: &[u8], session: &mut [u8]) -> u64 {
+    unsafe {
+        raw::sepalsail_open(
+            sheet.as_ptr(),
+            sheet.len(),
+            proposals.as_ptr(),
+            proposals.len(),
+            session.as_mut_ptr(),
+            session.len(),
+        )
+    }
 }
 
 /// The step call.

@@ -2,6 +2,8 @@
 //! between guard bytes, at a changing alignment; after the call the guards and everything lent
 //! only for reading must be unchanged.
 //!
+//! This is where a turned library stands in front of the true one, if one was chosen.
+//!
 //! The library side is the archive of SEPALSAIL_LIB; with the feature `model-only` it is the
 //! model itself; with neither it is missing, and `LINKED` says so. It is missing too in this
 //! crate's own tests, which are of the model alone.
@@ -22,7 +24,10 @@ mod raw;
 mod raw;
 
 use crate::crash;
+use crate::turned::{chosen, Call};
 use guard::Guarded;
+
+pub use guard::Lent;
 
 /// What stands on the library side.
 #[derive(Clone, Copy, Debug, PartialEq, Eq)]
@@ -56,9 +61,9 @@ fn guarded<const READ: usize>(
     numbers: [u32; 3],
     read: [Named<&[u8]>; READ],
     (written_name, written): Named<&mut [u8]>,
-    call: impl FnOnce([&[u8]; READ], &mut [u8]) -> u64,
+    call: impl FnOnce([Lent; READ], Lent) -> u64,
 ) -> Reply {
-    let lent_read = read.map(|(name, part)| Guarded::new(name, part));
+    let mut lent_read = read.map(|(name, part)| Guarded::new(name, part));
     let mut lent = Guarded::new(written_name, written);
     let mut parts = [crash::lent("", &[]); 4];
     for (noted, (name, part)) in parts.iter_mut().zip(read) {
@@ -66,8 +71,7 @@ fn guarded<const READ: usize>(
     }
     parts[READ] = crash::lent(written_name, written);
     crash::enter(name, numbers, parts);
-    let contents = std::array::from_fn(|at| lent_read[at].content());
-    let answer = call(contents, lent.content_mut());
+    let answer = call(lent_read.each_mut().map(Guarded::lend), lent.lend());
     crash::leave();
     written.copy_from_slice(lent.content());
     let fault = lent_read
@@ -87,8 +91,10 @@ pub fn check(sheet: &[u8]) -> Reply {
         [0; 3],
         [("sheet", sheet)],
         nothing,
-        // SAFETY: in all of these calls each pointer and length describe a slice.
-        |[sheet], _| unsafe { raw::sepalsail_check(sheet.as_ptr(), sheet.len()) },
+        |[mut sheet], _| match chosen() {
+            Some(Call::Check(turned)) => turned(&mut sheet),
+            _ => in_place::check(sheet.bytes()),
+        },
     )
 }
 
@@ -100,8 +106,9 @@ pub fn build(kind: u32, bound: u32, parties: u32, out: &mut [u8]) -> Reply {
         [kind, bound, parties],
         [],
         ("out", out),
-        |[], out| unsafe {
-            raw::sepalsail_build(kind, bound, parties, out.as_mut_ptr(), out.len())
+        |[], mut out| match chosen() {
+            Some(Call::Build(turned)) => turned([kind, bound, parties], &mut out),
+            _ => in_place::build([kind, bound, parties], out.bytes_mut()),
         },
     )
 }
@@ -114,15 +121,9 @@ pub fn open(sheet: &[u8], proposals: &[u8], session: &mut [u8]) -> Reply {
         [0; 3],
         [("sheet", sheet), ("proposals", proposals)],
         ("session", session),
-        |[sheet, proposals], session| unsafe {
-            raw::sepalsail_open(
-                sheet.as_ptr(),
-                sheet.len(),
-                proposals.as_ptr(),
-                proposals.len(),
-                session.as_mut_ptr(),
-                session.len(),
-            )
+        |[mut sheet, mut proposals], mut session| match chosen() {
+            Some(Call::Open(turned)) => turned(&mut sheet, &mut proposals, &mut session),
+            _ => in_place::open(sheet.bytes(), proposals.bytes(), session.bytes_mut()),
         },
     )
 }
@@ -135,7 +136,10 @@ pub fn step(session: &mut [u8], party: u32) -> Reply {
         [party, 0, 0],
         [],
         ("session", session),
-        |[], session| unsafe { raw::sepalsail_step(session.as_mut_ptr(), session.len(), party) },
+        |[], mut session| match chosen() {
+            Some(Call::Step(turned)) => turned(&mut session, party),
+            _ => in_place::step(session.bytes_mut(), party),
+        },
     )
 }
 
@@ -147,7 +151,10 @@ pub fn stop(session: &mut [u8], party: u32) -> Reply {
         [party, 0, 0],
         [],
         ("session", session),
-        |[], session| unsafe { raw::sepalsail_stop(session.as_mut_ptr(), session.len(), party) },
+        |[], mut session| match chosen() {
+            Some(Call::Stop(turned)) => turned(&mut session, party),
+            _ => in_place::stop(session.bytes_mut(), party),
+        },
     )
 }
 
@@ -160,7 +167,10 @@ pub fn live(session: &[u8]) -> Reply {
         [0; 3],
         [("session", session)],
         nothing,
-        |[session], _| unsafe { raw::sepalsail_live(session.as_ptr(), session.len()) },
+        |[mut session], _| match chosen() {
+            Some(Call::Live(turned)) => turned(&mut session),
+            _ => in_place::live(session.bytes()),
+        },
     )
 }
 
@@ -176,7 +186,7 @@ pub fn run(sheet: &[u8], proposals: &[u8], schedule: &[u8], out: &mut [u8]) -> R
             ("schedule", schedule),
         ],
         ("out", out),
-        |[sheet, proposals, schedule], out| in_place::run(sheet, proposals, schedule, out),
+        |[sheet, proposals, schedule], out| run_lent(sheet, proposals, schedule.bytes(), out),
     )
 }
 
@@ -188,6 +198,15 @@ pub fn run_uncopied(sheet: &[u8], proposals: &[u8], schedule: &[u8], out: &mut [
         [0; 3],
         [("sheet", sheet), ("proposals", proposals)],
         ("out", out),
-        |[sheet, proposals], out| in_place::run(sheet, proposals, schedule, out),
+        |[sheet, proposals], out| run_lent(sheet, proposals, schedule, out),
     )
+}
+
+/// The run on what lies between guards, and a schedule.
+#[cfg(feature = "runs")]
+fn run_lent(mut sheet: Lent, mut proposals: Lent, schedule: &[u8], mut out: Lent) -> u64 {
+    match chosen() {
+        Some(Call::Run(turned)) => turned(&mut sheet, &mut proposals, schedule, &mut out),
+        _ => in_place::run(sheet.bytes(), proposals.bytes(), schedule, out.bytes_mut()),
+    }
 }

@@ -19,6 +19,14 @@ mod sheets;
 #[derive(Debug)]
 pub struct Stop;
 
+/// Where a difference was found: in which call, by which case, and in which group.
+#[derive(Clone, Debug)]
+pub struct Found {
+    pub call: String,
+    pub case: u64,
+    pub group: &'static str,
+}
+
 /// What goes on until a difference.
 pub type Going<T> = Result<T, Stop>;
 
@@ -35,6 +43,7 @@ pub struct Judge {
     cases: u64,
     shown: Instant,
     shown_cases: u64,
+    found: Option<Found>,
 }
 
 /// A part of a case, for its report.
@@ -52,7 +61,13 @@ impl Judge {
             cases: 0,
             shown: now,
             shown_cases: 0,
+            found: None,
         }
+    }
+
+    /// Where the library, or the lister, was found to differ from the model.
+    pub fn found(&self) -> Option<&Found> {
+        self.found.as_ref()
     }
 
     pub fn group(&mut self, kind: Kind, name: &'static str) -> Group {
@@ -108,6 +123,7 @@ impl Judge {
         if model == library.answer && *by_model == by_library[..] && library.fault.is_none() {
             return Ok((number, value, position));
         }
+        self.differs(group, call);
         self.report(group, &format!("{call} {numbers:?}"), read);
         println!("lent for writing, before: {}", hex(&before));
         println!("model   {}", told(model));
@@ -143,6 +159,7 @@ impl Judge {
         if printed == expected.as_bytes() {
             return Ok(());
         }
+        self.differs(group, "lister");
         self.report(group, "lister", &[("input", input)]);
         println!("model   {expected:?}");
         println!("program {:?}", String::from_utf8_lossy(printed));
@@ -157,6 +174,16 @@ impl Judge {
         self.report(group, what, inputs);
         println!("the model does not give what this case was made for");
         Err(Stop)
+    }
+
+    /// Notes where a difference was found; the call is the first word of what it is reported as.
+    fn differs(&mut self, group: Group, call: &str) {
+        let name = call.split([' ', ',']).next().unwrap_or(call);
+        self.found = Some(Found {
+            call: name.to_string(),
+            case: self.cases,
+            group: self.tally.name(group),
+        });
     }
 
     /// The head of a report.

@@ -4,6 +4,7 @@ use crate::judge::{Going, Judge, Stop};
 use crate::make::schedules;
 use crate::model::run::lister;
 use crate::tally::{Group, Kind};
+use crate::turned::{chosen, Call};
 use std::io::Write;
 use std::path::PathBuf;
 use std::process::{Command, Stdio};
@@ -15,6 +16,7 @@ pub struct Lister {
     good: Group,
     refused: Group,
     long: Group,
+    limit: Group,
 }
 
 impl Lister {
@@ -26,15 +28,23 @@ impl Lister {
             good: group("lister, good schedules"),
             refused: group("lister, schedules with a bad byte"),
             long: group("lister, schedules of about 4,096 bytes"),
+            limit: group("lister, last byte acts before and past 4,096"),
         }
     }
 
-    /// The document's example, no input, and each single byte.
+    /// The document's example, no input, each single byte, and the only entry of a party just
+    /// before and just past the limit.
     pub fn fixed(&self, judge: &mut Judge) -> Going<()> {
         self.print(judge, self.fixed, &[2, 2, 1, 1, 1, 1, 1, 1, 1])?;
         self.print(judge, self.fixed, &[])?;
         for byte in 0..=255 {
             self.print(judge, self.fixed, &[byte])?;
+        }
+        for length in [4094, 4095, 4096, 4097] {
+            for last in [2, 130] {
+                let input = [vec![1; length], vec![last]].concat();
+                self.print(judge, self.limit, &input)?;
+            }
         }
         Ok(())
     }
@@ -58,9 +68,14 @@ impl Lister {
         self.print(judge, self.long, &long)
     }
 
-    /// Compares what the program prints with what it should print.
+    /// Compares what the program, or a turned one in front of it, prints with what it should
+    /// print.
     fn print(&self, judge: &mut Judge, group: Group, input: &[u8]) -> Going<()> {
-        let printed = self.output(input).map_err(|why| {
+        let printed = match chosen() {
+            Some(Call::Lister(turned)) => turned(input, &|input| self.output(input)),
+            _ => self.output(input),
+        };
+        let printed = printed.map_err(|why| {
             println!("{}: {why}", self.path.display());
             Stop
         })?;

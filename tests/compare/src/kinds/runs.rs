@@ -1,7 +1,7 @@
 //! The cases of the run and its record.
 
 use crate::judge::{Going, Judge};
-use crate::make::{damage, schedules, sessions, sheets};
+use crate::make::{damage, schedules, sessions, sheets, Draft};
 use crate::model::layout::party_at;
 use crate::model::run::record_length;
 use crate::model::session::DECIDED;
@@ -22,11 +22,14 @@ pub struct Runs {
     proposals: Group,
     sheet: Group,
     several: Group,
+    rows: Group,
+    in_turn: Group,
     worked: Group,
     every_byte: Group,
     all_schedules: Group,
     all_acting: Group,
     far_byte: Group,
+    far_entry: Group,
     long: Group,
 }
 
@@ -43,11 +46,14 @@ impl Runs {
             proposals: group("run, proposals of a wrong length"),
             sheet: group("run, sheet damaged"),
             several: group("run, several faults at once"),
+            rows: group("run, sheet refused at each row, N = 16"),
+            in_turn: group("run, all parties in turn to the end, each N"),
             worked: group("run, the schedules of P1 to P9"),
             every_byte: group("run, each byte alone and behind a good one"),
             all_schedules: group("run, all schedules of N = 2 up to length 8"),
             all_acting: group("run, all schedules of N = 2 that act, to the end"),
             far_byte: group("run, bad byte around 2^8, 2^16 and 2^24"),
+            far_entry: group("run, last byte acts around 2^8, 2^16 and 2^24"),
             long: group("run, schedules of up to 260,000 bytes"),
         }
     }
@@ -55,6 +61,8 @@ impl Runs {
     /// The cases that are run once and whole.
     pub fn fixed(&self, judge: &mut Judge) -> Going<()> {
         self.worked_cases(judge)?;
+        self.each_row(judge)?;
+        self.in_turn(judge)?;
         self.each_byte(judge)?;
         self.each_schedule(judge)?;
         self.each_acting_schedule(judge)?;
@@ -137,6 +145,40 @@ impl Runs {
         Ok(())
     }
 
+    /// The largest sheet with refusals 5 and 6 at each row.
+    fn each_row(&self, judge: &mut Judge) -> Going<()> {
+        let bytes = sheet::built(2, 31, 16).expect("P10 gives it");
+        let proposals = schedules::proposals(&mut judge.rng, 16);
+        for damaged in damage::at_each_row(&Draft::read(&bytes)) {
+            let exact = record_length(16);
+            judge.run(self.rows, &damaged, &proposals, &[1], exact)?;
+        }
+        Ok(())
+    }
+
+    /// All parties in turn, upwards and downwards, until all have decided: party 1 then has nearly
+    /// as many own steps as it can have, for N = 16 more than fit one byte.
+    fn in_turn(&self, judge: &mut Judge) -> Going<()> {
+        for parties in 1..=16u8 {
+            let sheet = sheet::built(2, 31, u32::from(parties)).expect("31 is large enough");
+            let n = usize::from(parties);
+            let proposals = schedules::proposals(&mut judge.rng, n);
+            let up: Vec<u8> = (1..=parties).collect();
+            let down: Vec<u8> = (1..=parties).rev().collect();
+            for turn in [up, down] {
+                let schedule = turn.repeat((n + 1) * (n + 1));
+                judge.run(
+                    self.in_turn,
+                    &sheet,
+                    &proposals,
+                    &schedule,
+                    record_length(n),
+                )?;
+            }
+        }
+        Ok(())
+    }
+
     /// Each byte as the only entry and as the second one, for all N.
     fn each_byte(&self, judge: &mut Judge) -> Going<()> {
         for parties in 1..=16 {
@@ -193,7 +235,8 @@ impl Runs {
         Ok(())
     }
 
-    /// A bad byte at indexes whose numbers of bytes differ, and the same schedule without it.
+    /// A bad byte at indexes whose numbers of bytes differ, and the same schedule without it; and
+    /// there the only entry of a party, behind those of one that has long decided.
     fn far_bytes(&self, judge: &mut Judge) -> Going<()> {
         let (sheet, proposals) = two_parties();
         for at in [
@@ -212,6 +255,11 @@ impl Runs {
             let given = judge.run(self.far_byte, &sheet, &proposals, &schedule, 18)?;
             let what = "a bad byte far away";
             judge.expect(given == (8, at as u32), self.far_byte, what, &[])?;
+            schedule.fill(1);
+            for last in [2, 130] {
+                schedule[at] = last;
+                judge.run(self.far_entry, &sheet, &proposals, &schedule, 18)?;
+            }
         }
         Ok(())
     }

@@ -1,12 +1,23 @@
-//! Sessions with each byte changed, and with all entries of a party.
+//! Sheets refused at each row, sessions with each byte changed, and with all entries of a party.
 
 use super::{reached, Sessions};
 use crate::judge::{Going, Judge};
-use crate::make::{schedules, sessions};
+use crate::make::{damage, schedules, sessions, Draft};
 use crate::model::layout::{party_at, published_at, SESSION};
 use crate::model::sheet;
 
 impl Sessions {
+    /// The open call on the largest sheet with refusals 5 and 6 at each row.
+    pub(super) fn each_row(&self, judge: &mut Judge) -> Going<()> {
+        let bytes = sheet::built(2, 31, 16).expect("P10 gives it");
+        let proposals = schedules::proposals(&mut judge.rng, 16);
+        for damaged in damage::at_each_row(&Draft::read(&bytes)) {
+            let mut session = judge.rng.bytes(SESSION);
+            judge.open(self.open_rows, &damaged, &proposals, &mut session)?;
+        }
+        Ok(())
+    }
+
     /// A reached and an odd session with each byte changed in three ways.
     pub(super) fn each_byte(&self, judge: &mut Judge) -> Going<()> {
         let small = sheet::built(1, 5, 3).expect("P10 gives it");

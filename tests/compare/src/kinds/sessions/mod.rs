@@ -16,6 +16,7 @@ pub struct Sessions {
     open_proposals: Group,
     open_length: Group,
     open_several: Group,
+    open_rows: Group,
     reached: Calls,
     odd: Calls,
     damaged: Vec<Group>,
@@ -47,6 +48,7 @@ impl Sessions {
             open_proposals: group("open, proposals of a wrong length"),
             open_length: group("open, session of a wrong length"),
             open_several: group("open, several faults at once"),
+            open_rows: group("open, sheet refused at each row, N = 16"),
             reached: Calls {
                 step: group("step, sessions reached"),
                 stop: group("stop, sessions reached"),
@@ -72,6 +74,7 @@ impl Sessions {
 
     /// The cases that are run once and whole.
     pub fn fixed(&self, judge: &mut Judge) -> Going<()> {
+        self.each_row(judge)?;
         self.each_byte(judge)?;
         self.each_entry(judge)?;
         for kind in 1..=2 {

@@ -3,6 +3,7 @@
 mod all_small;
 mod builder;
 mod each_row;
+mod each_size;
 
 use crate::judge::{Going, Judge};
 use crate::make::{damage, sheets, Draft};
@@ -73,6 +74,7 @@ pub struct Sheets {
     legal_kind_1: Group,
     legal_kind_2: Group,
     all_masks: Group,
+    sizes: Group,
     builder_exact: Group,
     builder_short: Group,
     builder_longer: Group,
@@ -106,6 +108,7 @@ impl Sheets {
             legal_kind_1: group("sheets kind 1, N = 2, all legal rows on 12 units"),
             legal_kind_2: group("sheets kind 2, N = 2, all legal rows on 8 units"),
             all_masks: group("sheets kind 2, N = 3, all masks of round 3"),
+            sizes: group("sheets kind 1, N = 2, sets of 1 to 64 units"),
             builder_exact: group("builder output of exact length"),
             builder_short: group("builder output too short by one"),
             builder_longer: group("builder output longer"),
@@ -122,6 +125,7 @@ impl Sheets {
         self.builder_numbers(judge)?;
         self.builder_large_numbers(judge)?;
         self.short_lengths(judge)?;
+        self.each_size(judge)?;
         self.each_row(judge)?;
         self.each_byte_and_bit(judge)?;
         self.all_small(judge)?;

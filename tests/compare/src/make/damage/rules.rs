@@ -162,6 +162,22 @@ pub fn legal_row(rng: &mut Rng, mut draft: Draft) -> Vec<u8> {
     draft.bytes()
 }
 
+/// The sheet with refusal 5, and with refusal 6, at each of its rows: the row writes nothing, or
+/// another row of its round writes its own unit.
+pub fn at_each_row(draft: &Draft) -> Vec<Vec<u8>> {
+    let rows = 0..draft.lines.len();
+    rows.flat_map(|index| {
+        let (round, party) = place_of(index);
+        let mut empty = draft.clone();
+        empty.lines[index].mask = 0;
+        let mut taken = draft.clone();
+        let own = usize::from(draft.lines[index].own);
+        taken.lines[index_of(round, party % round + 1)].add(own);
+        [empty.bytes(), taken.bytes()]
+    })
+    .collect()
+}
+
 /// Own and pair units at a distance where a shift count could wrap, and starts near the end of
 /// the 16-bit numbers.
 pub fn far_away(rng: &mut Rng, mut draft: Draft) -> Vec<u8> {
