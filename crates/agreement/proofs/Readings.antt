@@ -73,3 +73,34 @@ read-lasting L r q old new =
       stays = λ i l m e. new i l m .status ∙ L .stays i l m (sym (old i l m .status) ∙ e);
       same = λ i l m e. new i l m .decision ∙ L .same i l m (sym (old i l m .status) ∙ e) ∙ sym (old i l m .decision);
     }
+
+-- ---- the same proposals by another function
+
+module _ {n : ℕ} {f g : ℕ → ℕ} (same : (h : ℕ) → 1 ≤ h → h ≤ n → f h ≡ g h) where
+  pub demanded-by : {moves : List Move} {acts : ℕ → ℕ} {r : Readings} → Demanded n f moves acts r → Demanded n g moves acts r
+  demanded-by D =
+      record {
+        holder = D .holder;
+        holderLeast = D .holderLeast;
+        holderMost = D .holderMost;
+        agreed = λ i l m e. D .agreed i l m e ∙ same (D .holder) (D .holderLeast) (D .holderMost);
+        announced = D .announced;
+        undecided = D .undecided;
+        ownSteps = D .ownSteps;
+        most = D .most;
+        decides = D .decides;
+        enough = D .enough;
+      }
+
+  pub lasting-by : {r q : Readings} → LastingRead n f r q → LastingRead n g r q
+  lasting-by L =
+      let one = same (L .holder) (L .holderLeast) (L .holderMost) in
+      record {
+        holder = L .holder;
+        holderLeast = L .holderLeast;
+        holderMost = L .holderMost;
+        before = λ i l m e. L .before i l m e ∙ one;
+        after = λ i l m e. L .after i l m e ∙ one;
+        stays = L .stays;
+        same = L .same;
+      }

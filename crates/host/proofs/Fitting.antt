@@ -19,7 +19,7 @@ use Rattle.state.proofs.FormWords.{passed-says, well-formed-says}
 use Rattle.steps.specs.Reach.{Reached}
 use Rattle.steps.proofs.Reached.{Lengths, reached-kept, reached-parties, reached-well-formed, reached-lengths}
 use Rattle.agreement.specs.Demand.{Opens}
-use Rattle.agreement.proofs.Theorems.{rules}
+use Rattle.agreement.proofs.Demands.{rules}
 use Rattle.agreement.proofs.Parties.{Fits, fits}
 use Rattle.image.specs.Image.{Below, SizedParty, Sized}
 use Rattle.image.proofs.Bytes.{below-append}
@@ -111,7 +111,7 @@ module _ (sheet proposals : List ℕ) (o : Opens sheet proposals) (low : Below 2
       used : i ≤ layout s .parties → SizedParty (partyOf (s .parties) i)
       used l =
           party-sized (layout s .parties) few (s .published) i (partyOf (s .parties) i) (formed .parties i least l)
-          (fits sheet proposals o words R i least (omega (arith, same)))
+          (fits sheet proposals o R i least (omega (arith, same)) words)
 
   pub reached-sized : Sized s
   reached-sized =

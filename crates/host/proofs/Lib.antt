@@ -10,7 +10,7 @@ pub mod Leaving
 pub mod Ranges
 pub mod Says
 pub mod Fitting
-pub mod Scheduled
+pub mod PartyCalls
 pub mod Encoded
 pub mod Reading
 pub mod Openings

@@ -1,5 +1,5 @@
 -- An opening that is done has passed its three tests in turn, so the bytes are those of the fresh session, with a proposal of 4 bytes for each party.
-use Prim.Native.Nat.{ℕ, _+_, _*_, _^_, _<_}
+use Prim.Native.Nat.{ℕ, _+_, _-_, _*_, _^_, _≤_, _<_}
 use mathlib.Core.Path.{_≡_, refl, sym, ap, _∙_, subst⁻¹}
 use mathlib.Core.List.{List, _∷_, _++_, map}
 use mathlib.Core.Bool.{cond}
@@ -26,7 +26,9 @@ use Rattle.state.specs.Session.{freshSession}
 use Rattle.state.proofs.FormWords.{accepted-says}
 use Rattle.state.proofs.Copies.{length-range, range-at}
 use Rattle.state.proofs.Openings.{opens-when}
-use Rattle.agreement.specs.Demand.{Opens}
+use Rattle.agreement.specs.Demand.{Opens, proposalOf}
+use Rattle.agreement.specs.Statements.{Words}
+use Rattle.host.specs.Demand.{proposalIn}
 use Rattle.image.specs.Image.{sessionBytes, Below}
 use Rattle.host.specs.Calls.{proposalsFor, hostOpen, openBytes}
 use Rattle.image.proofs.Bytes.{below-cons, below-append, below-flat, below-bytes}
@@ -34,12 +36,12 @@ use Rattle.host.proofs.Leaving.{fits-when}
 
 -- ---- the tests
 
-record Passed (sheet proposals : List ℕ) (len : ℕ) : Type 0 where
-  accepted : checkAnswer sheet ≡ done
-  count : length proposals ≡ 4 * partiesOf sheet
-  size : len ≡ 3418
+pub record Passed (sheet proposals : List ℕ) (len : ℕ) : Type 0 where
+  pub accepted : checkAnswer sheet ≡ done
+  pub count : length proposals ≡ 4 * partiesOf sheet
+  pub size : len ≡ 3418
 
-passed : (sheet proposals : List ℕ) (len : ℕ) → hostOpen sheet proposals len ≡ done → Passed sheet proposals len
+pub passed : (sheet proposals : List ℕ) (len : ℕ) → hostOpen sheet proposals len ≡ done → Passed sheet proposals len
 passed sheet proposals len e =
     let rest = cond (eqb len 3418) done (answer 11 0) in
     let (t, counted, z) =
@@ -60,31 +62,38 @@ passes sheet proposals len p =
 
 -- ---- what is opened
 
-module _ (sheet proposals session : List ℕ) (low : Below 256 proposals) (e : hostOpen sheet proposals (length session) ≡ done) where
+-- the bytes of a fresh session
+pub open-bytes : (sheet proposals session : List ℕ) → hostOpen sheet proposals (length session) ≡ done
+    → openBytes sheet proposals session ≡ sessionBytes (freshSession sheet (proposalsFor sheet proposals) (partiesOf sheet))
+open-bytes sheet proposals session e =
+    ap (λ (a : Answer). cond (eqb (a .number) 0) (sessionBytes (freshSession sheet (proposalsFor sheet proposals) (partiesOf sheet))) session) e
+
+-- ---- the proposals of an accepted sheet, in 4 bytes each
+
+module _ (sheet proposals : List ℕ) (low : Below 256 proposals) (accepted : checkAnswer sheet ≡ done) (size : length proposals ≡ 4 * partiesOf sheet) where
   abbrev n : ℕ
   n = partiesOf sheet
 
   abbrev numbers : List ℕ
   numbers = proposalsFor sheet proposals
 
-  pub open-bytes : openBytes sheet proposals session ≡ sessionBytes (freshSession sheet numbers n)
-  open-bytes = ap (λ (a : Answer). cond (eqb (a .number) 0) (sessionBytes (freshSession sheet numbers n)) session) e
-
   count : length numbers ≡ n
   count = length-range (λ j. num proposals (4 * j) 4) 0 n
 
   pub opens : Opens sheet numbers
-  opens = record { accepted = passed sheet proposals (length session) e .accepted; count = count }
+  opens = record { accepted = accepted; count = count }
 
-  -- the proposal of a party
-  pub proposal-at : (j : ℕ) → j < n → getD numbers j 0 ≡ num proposals (4 * j) 4
-  proposal-at j h = range-at (λ j. num proposals (4 * j) 4) 0 n j 0 h ∙ ap (λ (k : ℕ). num proposals (4 * k) 4) (let z : 0 + j ≡ j = omega arith in z)
+  number-at : (j : ℕ) → j < n → getD numbers j 0 ≡ num proposals (4 * j) 4
+  number-at j h = range-at (λ j. num proposals (4 * j) 4) 0 n j 0 h ∙ ap (λ (k : ℕ). num proposals (4 * k) 4) (let z : 0 + j ≡ j = omega arith in z)
 
-  pub words : (j : ℕ) → getD numbers j 0 < 2 ^ 32
+  -- a party's proposal is in its 4 bytes
+  pub proposals-in : (h : ℕ) → 1 ≤ h → h ≤ n → proposalOf numbers h ≡ proposalIn proposals h
+  proposals-in h l m = number-at (h - 1) (omega arith)
+
+  pub words : Words numbers
   words j =
       ⊎-elim
-      (λ h. subst⁻¹ (λ (x : ℕ). x < 2 ^ 32) (proposal-at j h)
-      (num-below proposals (4 * j) 4 (omega (arith, passed sheet proposals (length session) e .count)) low))
+      (λ h. subst⁻¹ (λ (x : ℕ). x < 2 ^ 32) (number-at j h) (num-below proposals (4 * j) 4 (omega (arith, size)) low))
       (λ h. let none = List·getD-eq-default numbers 0 {n = j} (omega (arith, count)) in omega arith)
       (lt-or-le j n)
 

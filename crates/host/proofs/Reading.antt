@@ -12,19 +12,14 @@ use Rattle.state.specs.declared.kept.Party.{Party}
 use Rattle.state.specs.declared.kept.Session.{Session}
 use Rattle.state.proofs.Copies.{range-at}
 use Rattle.agreement.proofs.Readings.{Says}
-use Rattle.image.specs.Image.{partyFrom, sessionBytes, Sized}
-use Rattle.host.specs.Demand.{placeIn, statusIn, stepsIn, decisionIn}
+use Rattle.image.specs.Image.{partyFrom, sessionBytes, partyPlace, ofImage, Sized}
 use Rattle.image.proofs.Inverse.{decode-encode}
-
--- the bytes say p of party i
-abbrev pub In : List ℕ → ℕ → Party → Type 0
-In bytes i p = Says p (statusIn bytes i) (stepsIn bytes i) (decisionIn bytes i)
 
 module _ (s : Session) (z : Sized s) (i : ℕ) (least : 1 ≤ i) (most : i ≤ 16) where
   abbrev bytes : List ℕ
   bytes = sessionBytes s
 
-  party-at : partyFrom (drop (placeIn i) bytes) ≡ partyOf (s .parties) i
+  party-at : partyFrom (drop (partyPlace i) bytes) ≡ partyOf (s .parties) i
   party-at =
       let read : ℕ → Party = λ j. partyFrom (drop (11 * j) (drop 3242 bytes)) in
       ap partyFrom (sym (drop-drop (11 * (i - 1)) 3242 bytes))
@@ -32,13 +27,13 @@ module _ (s : Session) (z : Sized s) (i : ℕ) (least : 1 ≤ i) (most : i ≤ 1
       ∙ sym (range-at read 0 16 (i - 1) noParty (omega arith))
       ∙ ap (λ (t : Session). partyOf (t .parties) i) (decode-encode s z)
 
-  pub says : In bytes i (partyOf (s .parties) i)
+  pub says : Says (partyOf (s .parties) i) (ofImage bytes) i
   says =
       record {
         status =
-            ap (λ (j : ℕ). getD bytes j 0) (sym (add-zero (placeIn i)))
-            ∙ sym (getD-drop (placeIn i) bytes 0 0)
+            ap (λ (j : ℕ). getD bytes j 0) (sym (add-zero (partyPlace i)))
+            ∙ sym (getD-drop (partyPlace i) bytes 0 0)
             ∙ ap (λ (p : Party). p .status) party-at;
-        steps = sym (num-drop bytes (placeIn i) 5 2) ∙ ap (λ (p : Party). p .steps) party-at;
-        decision = sym (num-drop bytes (placeIn i) 7 4) ∙ ap (λ (p : Party). p .decision) party-at;
+        steps = sym (num-drop bytes (partyPlace i) 5 2) ∙ ap (λ (p : Party). p .steps) party-at;
+        decision = sym (num-drop bytes (partyPlace i) 7 4) ∙ ap (λ (p : Party). p .decision) party-at;
       }

@@ -1,94 +1,208 @@
--- Demand 3 of the host's calls is that of the schedule which they stand for, read off the bytes of the session that it leads to.
-use Prim.Native.Nat.{ℕ, _-_, _%_, _^_, _≤_, _<_}
-use mathlib.Core.Path.{_≡_, ap, _∙_, subst, subst⁻¹}
-use mathlib.Core.List.{List, [], map}
+-- Demand 3 of the host's calls is that of the moves which they stand for, read off the bytes of the session that they lead to; of its run that of the record.
+use Prim.Native.Nat.{ℕ, _-_, _*_, _%_, _^_, _≤_, _<_}
+use mathlib.Core.Path.{_≡_, sym, ap, _∙_, subst, subst⁻¹, subst₂}
+use mathlib.Core.List.{List, [], _++_, map}
+use mathlib.Core.Bool.{cond}
 use native.Mathlib.Omega.{arith}
-use lib.Dec.{T}
+use borrow.Author.Tests.{eq-eqb}
+use lib.Dec.{T, eqb}
 use lib.ListN.{length, getD}
 use Rattle.sheet.specs.Rows.{partiesOf}
 use Rattle.sheet.specs.Lists.{all}
-use Rattle.answers.specs.Answers.{done}
+use Rattle.sheet.proofs.Folds.{and-right, all-append}
+use Rattle.answers.specs.Answers.{Answer, answer, done}
+use Rattle.rules.specs.Check.{checkAnswer}
 use Rattle.builder.specs.Build.{builtSheet}
-use Rattle.state.specs.Session.{partyOf}
+use Rattle.builder.proofs.Theorems.{built-says}
+use Rattle.state.specs.Session.{freshSession, partyOf}
 use Rattle.state.specs.declared.kept.Session.{Session}
-use Rattle.steps.specs.Run.{byteOk, ran}
-use Rattle.steps.specs.Reach.{stepLimit, Reached, here}
-use Rattle.agreement.specs.Demand.{Opens}
-use Rattle.agreement.proofs.Theorems.{rules, reached}
-use Rattle.agreement.proofs.Readings.{read}
-use Rattle.image.specs.Image.{sessionBytes, Below, Sized}
-use Rattle.host.specs.Calls.{proposalsFor, hostOpen, openBytes}
-use Rattle.host.specs.Demand.{Call, afterAll, wordsOf, statusIn, stepsIn, decisionIn, leftBy, OfHost, OfHostCalls, OfHostBuilt}
+use Rattle.image.specs.Image.{sessionBytes, ofImage, Below, Sized}
 use Rattle.image.proofs.Inverse.{length-session}
+use Rattle.record.specs.Record.{recordLength, ofRecord}
+use Rattle.steps.specs.Moves.{Move, movedBy, stepsBefore}
+use Rattle.steps.specs.Run.{byteOk, movesIn, runAnswer, runOut}
+use Rattle.steps.specs.Trace.{acts, actsTold}
+use Rattle.steps.specs.Reach.{stepLimit, Reached, Lasting, here, movesOn}
+use Rattle.steps.proofs.Agreement.{lasting}
+use Rattle.steps.proofs.Given.{enough-given}
+use Rattle.steps.proofs.Moves.{moves-lead, moves-on, moved-append}
+use Rattle.steps.proofs.Tally.{moves-acts}
+use Rattle.agreement.specs.Demand.{Opens, proposalOf, Demanded, LastingRead}
+use Rattle.agreement.specs.Statements.{OfRecord, Words}
+use Rattle.agreement.proofs.Demands.{rules}
+use Rattle.agreement.proofs.Readings.{Says, Reads, read, read-lasting, demanded-by, lasting-by}
+use Rattle.agreement.proofs.Theorems.{over-openings}
+use Rattle.host.specs.Word.{answerWord}
+use Rattle.host.specs.Calls.{proposalsFor, hostOpen, openBytes, lastIndex, hostRun, runBytes}
+use Rattle.host.specs.Demand.{proposalIn, afterAll, wordsOf, valuesIn, leftBy, OfHost, OverHostCalls, OfHostRun, Runs, LaterRun, OverHostRuns, OverHostBuilt}
 use Rattle.host.proofs.Fitting.{reached-sized}
-use Rattle.host.proofs.Scheduled.{scheduleOf, schedule-good, schedule-steps}
-use Rattle.host.proofs.Encoded.{calls-leave, calls-number}
-use Rattle.host.proofs.Reading.{In, says}
-use Rattle.host.proofs.Openings.{open-bytes, opens, proposal-at, words, built-below, built-opens}
+use Rattle.host.proofs.Heard.{unheard}
+use Rattle.host.proofs.PartyCalls.{partyCalls, all-of-parties, parties-append, steps-same}
+use Rattle.host.proofs.Encoded.{calls-leave, calls-number, calls-acts}
+use Rattle.host.proofs.Reading.{says}
+use Rattle.host.proofs.Openings.{Passed, passed, open-bytes, opens, proposals-in, words, built-below, built-opens}
+
+-- ---- calls
 
 module _ (sheet proposals session : List ℕ) (sheetLow : Below 256 sheet) (proposalsLow : Below 256 proposals)
-    (opened : hostOpen sheet proposals (length session) ≡ done) (calls : List Call) where
+    (opened : hostOpen sheet proposals (length session) ≡ done) where
   abbrev n : ℕ
   n = partiesOf sheet
 
   abbrev numbers : List ℕ
   numbers = proposalsFor sheet proposals
 
+  abbrev start : Session
+  start = freshSession sheet numbers n
+
+  pass : Passed sheet proposals (length session)
+  pass = passed sheet proposals (length session) opened
+
   o : Opens sheet numbers
-  o = opens sheet proposals session proposalsLow opened
+  o = opens sheet proposals proposalsLow (pass .accepted) (pass .count)
 
   few : n ≤ 16
   few = rules o .before .before .before .header .partiesMost
 
-  good : T (all (byteOk n) (scheduleOf n calls))
-  good = schedule-good n few calls
-
-  abbrev s : Session
-  s = ran sheet numbers (scheduleOf n calls)
-
-  R : Reached sheet numbers s
-  R = reached sheet numbers o (scheduleOf n calls) good
-
-  wide : (j : ℕ) → getD numbers j 0 < 2 ^ 32
-  wide = words sheet proposals session proposalsLow opened
-
-  sized : Sized s
-  sized = reached-sized sheet numbers o sheetLow wide R
-
-  abbrev bytes : List ℕ
-  bytes = leftBy sheet proposals session calls
+  wide : Words numbers
+  wide = words sheet proposals proposalsLow (pass .accepted) (pass .count)
 
   -- what is said of the opened bytes
-  fresh : {A : Type 0} (f : List ℕ → A) → f (openBytes sheet proposals session) ≡ f (sessionBytes (ran sheet numbers []))
-  fresh f = ap f (open-bytes sheet proposals session proposalsLow opened)
+  fresh : {A : Type 0} (f : List ℕ → A) → f (openBytes sheet proposals session) ≡ f (sessionBytes start)
+  fresh f = ap f (open-bytes sheet proposals session opened)
 
-  left : bytes ≡ sessionBytes s
-  left = fresh (λ b. afterAll b calls) ∙ calls-leave sheet numbers o sheetLow wide here calls
+  -- each party's proposal
+  each : (h : ℕ) → 1 ≤ h → h ≤ n → proposalOf numbers h ≡ proposalIn proposals h
+  each = proposals-in sheet proposals proposalsLow (pass .accepted) (pass .count)
 
-  shown : (i : ℕ) → 1 ≤ i → i ≤ n → In bytes i (partyOf (s .parties) i)
-  shown i least most = subst⁻¹ (λ (b : List ℕ). In b i (partyOf (s .parties) i)) left (says s sized i least (omega (arith, few)))
+  module _ (calls : List Move) where
+    abbrev s : Session
+    s = movedBy start (partyCalls n calls)
 
-  of-calls : OfHost sheet proposals session calls
-  of-calls =
-      let r = read sheet numbers o (scheduleOf n calls) good (statusIn bytes) (stepsIn bytes) (decisionIn bytes) shown in
-      let proposal = proposal-at sheet proposals session proposalsLow opened (r .holder - 1) (omega arith) in
+    R : Reached sheet numbers s
+    R = moves-lead here (all-of-parties n calls)
+
+    sized : Sized s
+    sized = reached-sized sheet numbers o sheetLow wide R
+
+    abbrev bytes : List ℕ
+    bytes = leftBy sheet proposals session calls
+
+    left : bytes ≡ sessionBytes s
+    left = fresh (λ b. afterAll b calls) ∙ calls-leave sheet numbers o sheetLow wide here calls
+
+    shown : Reads n s (ofImage bytes)
+    shown i least most = subst⁻¹ (λ (b : List ℕ). Says (partyOf (s .parties) i) (ofImage b) i) left (says s sized i least (omega (arith, few)))
+
+    counted : (i : ℕ) → 1 ≤ i → i ≤ n → partyOf (s .parties) i .steps ≡ actsTold i calls (valuesIn (wordsOf (openBytes sheet proposals session) calls))
+    counted i least most =
+        moves-acts sheet numbers (rules o) (o .count) i least most (all-of-parties n calls)
+        ∙ sym (calls-acts sheet numbers o sheetLow wide i least most here calls)
+        ∙ sym (fresh (λ b. actsTold i calls (valuesIn (wordsOf b calls))))
+
+    given : (i : ℕ) → 1 ≤ i → i ≤ n → stepLimit n i ≤ stepsBefore i calls → partyOf (s .parties) i .status ≡ 2
+    unfolding movesOn R
+    given i least most l =
+        let moves = moves-on {s = start} {t = start} here (all-of-parties n calls) in
+        enough-given sheet numbers (rules o) i least most R
+        (subst⁻¹ (λ (k : ℕ). stepLimit n i ≤ k) (ap (stepsBefore i) moves ∙ sym (steps-same n i least most calls)) l)
+
+  of-calls : (calls : List Move) → OfHost sheet proposals session calls
+  of-calls calls =
       record {
         opens = opened;
-        length = ap length left ∙ length-session s sized;
+        length = ap length (left calls) ∙ length-session (s calls) (sized calls);
         numbers = fresh (λ b. map (λ w. w % 256) (wordsOf b calls)) ∙ calls-number sheet numbers o sheetLow wide here calls;
-        holder = r .holder;
-        holderLeast = r .holderLeast;
-        holderMost = r .holderMost;
-        agreed = λ i l m e. r .agreed i l m e ∙ proposal;
-        announced = r .announced;
-        most = r .most;
-        decides = r .decides;
-        enough = λ i l m g. r .enough i l m (subst (λ (k : ℕ). stepLimit n i ≤ k) (schedule-steps n few i l m calls) g);
+        told =
+            demanded-by each
+            (read sheet numbers o (R calls) (ofImage (bytes calls)) (shown calls) calls
+            (λ i. actsTold i calls (valuesIn (wordsOf (openBytes sheet proposals session) calls)))
+            (counted calls)
+            (given calls));
+        later = λ more.
+            lasting-by each
+            (read-lasting (longer more) (ofImage (bytes calls)) (ofImage (bytes (calls ++ more))) (shown calls) (shown (calls ++ more)));
+      }
+    where
+      longer : (more : List Move) → Lasting n numbers (s calls) (s (calls ++ more))
+      longer more =
+          subst (Lasting n numbers (s calls))
+          (sym (ap (movedBy start) (parties-append n calls more) ∙ moved-append start (partyCalls n calls) (partyCalls n more)))
+          (lasting sheet numbers (rules o) (o .count) (R calls) (moves-lead here (all-of-parties n more)))
+
+pub over-host-calls : OverHostCalls
+over-host-calls = of-calls
+
+-- ---- a run
+
+module _ (sheet proposals schedule out : List ℕ) (r : Runs sheet proposals schedule out) where
+  abbrev runners : List ℕ
+  runners = proposalsFor sheet proposals
+
+  open-run : Opens sheet runners
+  open-run = opens sheet proposals (r .bytes) (r .accepted) (r .count)
+
+  of-record : OfRecord sheet runners schedule out
+  of-record =
+      over-openings sheet runners open-run .run (words sheet proposals (r .bytes) (r .accepted) (r .count)) schedule (r .good) out (r .room)
+
+  -- the call is done, as the run is
+  answers-done : hostRun sheet proposals schedule (length out) ≡ done
+  answers-done =
+      let a = ap (λ (x : Answer). eqb (x .number) 0) (r .accepted) in
+      let b = eq-eqb (length proposals) (4 * partiesOf sheet) (r .count) in
+      let c = ap (λ (l : List ℕ). runAnswer sheet runners l (length out)) (unheard lastIndex schedule (r .indexed)) ∙ of-record .done in
+      λ i. cond (a i) (cond (b i) (c i) (answer 7 0)) (checkAnswer sheet)
+
+  -- and its bytes are the record's
+  pub run-bytes : runBytes sheet proposals schedule out ≡ runOut sheet runners schedule out
+  run-bytes = ap (λ (a : Answer). cond (eqb (a .number) 0) (runOut sheet runners schedule out) out) answers-done
+
+  of-run : OfHostRun sheet proposals schedule out
+  of-run =
+      record {
+        word = ap answerWord answers-done;
+        told =
+            subst⁻¹
+            (λ (bytes : List ℕ).
+            Demanded (partiesOf sheet) (proposalIn proposals) (movesIn schedule) (acts (freshSession sheet runners (partiesOf sheet)) (movesIn schedule))
+            (ofRecord bytes))
+            run-bytes
+            (demanded-by (proposals-in sheet proposals (r .bytes) (r .accepted) (r .count)) (of-record .told));
       }
 
-pub of-host-calls : OfHostCalls
-of-host-calls = of-calls
+later-run : (sheet proposals schedule out : List ℕ) → Runs sheet proposals schedule out → LaterRun sheet proposals schedule out
+later-run sheet proposals schedule out r more other q =
+    subst₂ (λ (a b : List ℕ). LastingRead (partiesOf sheet) (proposalIn proposals) (ofRecord a) (ofRecord b))
+    (sym (run-bytes sheet proposals schedule out r))
+    (sym (run-bytes sheet proposals (schedule ++ more) other q))
+    (lasting-by (proposals-in sheet proposals (r .bytes) (r .accepted) (r .count)) (of-record sheet proposals schedule out r .later more second other (q .room)))
+  where
+    second : T (all (byteOk (partiesOf sheet)) more)
+    second =
+        and-right (all (byteOk (partiesOf sheet)) schedule) (all (byteOk (partiesOf sheet)) more)
+        (subst T (all-append (byteOk (partiesOf sheet)) schedule more) (q .good))
 
-pub of-host-built : OfHostBuilt
-of-host-built kind bound n g proposals session low count size =
-    of-calls (builtSheet kind bound n) proposals session (built-below kind bound n g) low (built-opens kind bound n g proposals session count size)
+pub over-host-runs : OverHostRuns
+over-host-runs sheet proposals schedule out r = (of-run sheet proposals schedule out r, later-run sheet proposals schedule out r)
+
+-- ---- a built sheet
+
+pub over-host-built : OverHostBuilt
+over-host-built kind bound n g proposals low count =
+    let b = built-says kind bound n g in
+    let parties = b .readParties in
+    record {
+      calls = λ session size.
+          of-calls (builtSheet kind bound n) proposals session (built-below kind bound n g) low (built-opens kind bound n g proposals session count size);
+      run = λ schedule out good indexed room.
+          over-host-runs (builtSheet kind bound n) proposals schedule out
+          (record {
+            accepted = b .accepted;
+            bytes = low;
+            count = count ∙ ap (λ (k : ℕ). 4 * k) (sym parties);
+            good = subst⁻¹ (λ (k : ℕ). T (all (byteOk k) schedule)) parties good;
+            indexed = indexed;
+            room = subst⁻¹ (λ (k : ℕ). recordLength k ≤ length out) parties room;
+          });
+    }

@@ -1,85 +1,68 @@
--- Demand 3, over the bytes of a session and the words of the calls on it. Each statement is proved in `proofs/Theorems.antt`.
-use Prim.Native.Nat.{ℕ, suc, _+_, _-_, _*_, _%_, _≤_}
+-- Demand 3, over the bytes of a session and the words of the calls on it, and over the run's word and bytes. Each statement is proved in `proofs/Theorems.antt`.
+use Prim.Native.Nat.{ℕ, _-_, _*_, _/_, _%_, _^_, _≤_}
 use mathlib.Core.Path.{_≡_}
-use mathlib.Core.List.{List, [], _∷_, map}
+use mathlib.Core.List.{List, [], _∷_, _++_, map}
 use mathlib.Core.Bool.{cond}
-use lib.ListN.{length, getD}
-use lib.Dec.{eqb}
+use lib.ListN.{length}
+use lib.Dec.{T}
 use Rattle.sheet.specs.Rows.{partiesOf}
+use Rattle.sheet.specs.Lists.{within, all}
 use Rattle.sheet.specs.Bytes.{num}
 use Rattle.answers.specs.Answers.{done}
-use Rattle.sheet.specs.Lists.{within}
+use Rattle.rules.specs.Check.{checkAnswer}
 use Rattle.builder.specs.Build.{builtSheet}
 use Rattle.builder.specs.Given.{Given}
-use Rattle.steps.specs.Reach.{stepLimit}
-use Rattle.host.specs.Word.{toldWord}
-use Rattle.image.specs.Image.{Below}
-use Rattle.host.specs.Calls.{hostOpen, openBytes, hostStep, stepBytes, hostStop, stopBytes}
+use Rattle.state.specs.Session.{freshSession}
+use Rattle.image.specs.Image.{ofImage, Below}
+use Rattle.record.specs.Record.{recordLength, ofRecord}
+use Rattle.steps.specs.Moves.{Move, stepOf, stopOf, whose}
+use Rattle.steps.specs.Run.{byteOk, movesIn}
+use Rattle.steps.specs.Trace.{acts, actsTold}
+use Rattle.agreement.specs.Demand.{Demanded, LastingRead}
+use Rattle.host.specs.Word.{answerWord, toldWord}
+use Rattle.host.specs.Calls.{proposalsFor, hostOpen, openBytes, hostStep, stepBytes, hostStop, stopBytes, lastIndex, hostRun, runBytes}
 
--- ---- calls on the bytes of a session
+-- the proposal of party h, of 4 bytes each
+abbrev pub proposalIn : List ℕ → ℕ → ℕ
+proposalIn proposals h = num proposals (4 * (h - 1)) 4
 
--- a step or a stop of any number, also of one that is no party
-pub data Call : Type 0 where
-  step : ℕ → Call
-  stop : ℕ → Call
-
--- the number that a call is of
-abbrev pub asked : Call → ℕ
-asked (step i) = i
-asked (stop i) = i
+-- ---- calls on the bytes of a session: a step or a stop of any number, also of one that is no party
 
 -- the bytes after a call
-abbrev pub after : List ℕ → Call → List ℕ
-after bytes (step i) = stepBytes bytes i
-after bytes (stop i) = stopBytes bytes i
+abbrev pub after : List ℕ → Move → List ℕ
+after bytes (stepOf i) = stepBytes bytes i
+after bytes (stopOf i) = stopBytes bytes i
 
 -- the word that it answers
-abbrev pub callWord : List ℕ → Call → ℕ
-callWord bytes (step i) = toldWord (hostStep bytes i)
-callWord bytes (stop i) = toldWord (hostStop bytes i)
+abbrev pub callWord : List ℕ → Move → ℕ
+callWord bytes (stepOf i) = toldWord (hostStep bytes i)
+callWord bytes (stopOf i) = toldWord (hostStop bytes i)
 
 -- each call in turn, on the bytes that the one before left
-abbrev pub afterAll : List ℕ → List Call → List ℕ
+abbrev pub afterAll : List ℕ → List Move → List ℕ
 afterAll bytes [] = bytes
 afterAll bytes (c ∷ cs) = afterAll (after bytes c) cs
 
 -- the words that they answer
-abbrev pub wordsOf : List ℕ → List Call → List ℕ
+abbrev pub wordsOf : List ℕ → List Move → List ℕ
 wordsOf bytes [] = []
 wordsOf bytes (c ∷ cs) = callWord bytes c ∷ wordsOf (after bytes c) cs
 
--- how many step calls of party i come before any stop call of its own
-abbrev pub stepsBefore : ℕ → List Call → ℕ
-stepsBefore i [] = 0
-stepsBefore i (step j ∷ cs) = let r = stepsBefore i cs in cond (eqb j i) (suc r) r
-stepsBefore i (stop j ∷ cs) = let r = stepsBefore i cs in cond (eqb j i) 0 r
+-- the values that words say, in bits 8 to 31: places and statuses
+abbrev pub valuesIn : List ℕ → List ℕ
+valuesIn words = map (λ w. w / 256 % 2 ^ 24) words
 
 -- the refusal number of a call: 0 for a party 1 to n, and 10 for any other number
-abbrev pub refusalOf : ℕ → Call → ℕ
-refusalOf n c = cond (within 1 n (asked c)) 0 10
-
--- ---- what the bytes say of party i
-
--- where party i's bytes stand: after 3,242 of the sheet, proposals, marks and published candidates, 11 for each party before it
-abbrev pub placeIn : ℕ → ℕ
-placeIn i = 3242 + 11 * (i - 1)
-
-abbrev pub statusIn : List ℕ → ℕ → ℕ
-statusIn bytes i = getD bytes (placeIn i) 0
-
-abbrev pub stepsIn : List ℕ → ℕ → ℕ
-stepsIn bytes i = num bytes (placeIn i + 5) 2
-
-abbrev pub decisionIn : List ℕ → ℕ → ℕ
-decisionIn bytes i = num bytes (placeIn i + 7) 4
+abbrev pub refusalOf : ℕ → Move → ℕ
+refusalOf n c = cond (within 1 n (whose c)) 0 10
 
 -- ---- an opening, and any calls
 
 -- the bytes that they leave
-abbrev pub leftBy : List ℕ → List ℕ → List ℕ → List Call → List ℕ
+abbrev pub leftBy : List ℕ → List ℕ → List ℕ → List Move → List ℕ
 leftBy sheet proposals session calls = afterAll (openBytes sheet proposals session) calls
 
-pub record OfHost (sheet proposals session : List ℕ) (calls : List Call) : Type 0 where
+pub record OfHost (sheet proposals session : List ℕ) (calls : List Move) : Type 0 where
   -- the opening is done
   pub opens : hostOpen sheet proposals (length session) ≡ done
   -- the bytes are still 3,418
@@ -87,35 +70,63 @@ pub record OfHost (sheet proposals session : List ℕ) (calls : List Call) : Typ
   -- of each call the refusal number is 0 where it is of a party 1 to N, and 10 otherwise, so never 9
   pub numbers :
       map (λ w. w % 256) (wordsOf (openBytes sheet proposals session) calls) ≡ map (refusalOf (partiesOf sheet)) calls
-  -- 1. every party that has decided has decided the proposal of one same party, which has taken an own step
-  pub holder : ℕ
-  pub holderLeast : 1 ≤ holder
-  pub holderMost : holder ≤ partiesOf sheet
-  pub agreed :
-      (i : ℕ) → 1 ≤ i → i ≤ partiesOf sheet → statusIn (leftBy sheet proposals session calls) i ≡ 2
-      → decisionIn (leftBy sheet proposals session calls) i ≡ num proposals (4 * (holder - 1)) 4
-  pub announced :
-      (i : ℕ) → 1 ≤ i → i ≤ partiesOf sheet → statusIn (leftBy sheet proposals session calls) i ≡ 2
-      → 1 ≤ stepsIn (leftBy sheet proposals session calls) holder
-  -- 2. no party has more own steps than its limit, and one that has them has decided
-  pub most :
-      (i : ℕ) → 1 ≤ i → i ≤ partiesOf sheet → stepsIn (leftBy sheet proposals session calls) i ≤ stepLimit (partiesOf sheet) i
-  pub decides :
-      (i : ℕ) → 1 ≤ i → i ≤ partiesOf sheet → stepLimit (partiesOf sheet) i ≤ stepsIn (leftBy sheet proposals session calls) i
-      → statusIn (leftBy sheet proposals session calls) i ≡ 2
-  -- 3. and one that has as many step calls as its limit before any stop call of its own has decided
-  pub enough :
-      (i : ℕ) → 1 ≤ i → i ≤ partiesOf sheet → stepLimit (partiesOf sheet) i ≤ stepsBefore i calls
-      → statusIn (leftBy sheet proposals session calls) i ≡ 2
+  -- what the bytes say is as demanded; own steps are the step calls whose word says something other than 8
+  pub told :
+      Demanded (partiesOf sheet) (proposalIn proposals) calls
+      (λ i. actsTold i calls (valuesIn (wordsOf (openBytes sheet proposals session) calls))) (ofImage (leftBy sheet proposals session calls))
+  -- whatever calls follow
+  pub later :
+      (more : List Move)
+      → LastingRead (partiesOf sheet) (proposalIn proposals) (ofImage (leftBy sheet proposals session calls))
+      (ofImage (leftBy sheet proposals session (calls ++ more)))
 
 -- every opening that is done, with sheet and proposals of bytes, and every list of calls
-abbrev pub OfHostCalls : Type 0
-OfHostCalls =
+abbrev pub OverHostCalls : Type 0
+OverHostCalls =
     (sheet proposals session : List ℕ) → Below 256 sheet → Below 256 proposals → hostOpen sheet proposals (length session) ≡ done
-    → (calls : List Call) → OfHost sheet proposals session calls
+    → (calls : List Move) → OfHost sheet proposals session calls
 
--- a built sheet is accepted, so all of this holds of it with proposals of 4 bytes each and a session of 3,418
-abbrev pub OfHostBuilt : Type 0
-OfHostBuilt =
-    (kind bound n : ℕ) → Given kind bound n → (proposals session : List ℕ) → Below 256 proposals → length proposals ≡ 4 * n
-    → length session ≡ 3418 → (calls : List Call) → OfHost (builtSheet kind bound n) proposals session calls
+-- ---- a run
+
+pub record OfHostRun (sheet proposals schedule out : List ℕ) : Type 0 where
+  -- its word is 0: done
+  pub word : answerWord (hostRun sheet proposals schedule (length out)) ≡ 0
+  -- what its bytes say is as demanded
+  pub told :
+      Demanded (partiesOf sheet) (proposalIn proposals) (movesIn schedule)
+      (acts (freshSession sheet (proposalsFor sheet proposals) (partiesOf sheet)) (movesIn schedule))
+      (ofRecord (runBytes sheet proposals schedule out))
+
+-- an accepted sheet, proposals of 4 × N bytes, a schedule of good bytes with none at index 2^32 − 1, and an output that the record fits
+pub record Runs (sheet proposals schedule out : List ℕ) : Type 0 where
+  pub accepted : checkAnswer sheet ≡ done
+  pub bytes : Below 256 proposals
+  pub count : length proposals ≡ 4 * partiesOf sheet
+  pub good : T (all (byteOk (partiesOf sheet)) schedule)
+  pub indexed : length schedule ≤ lastIndex
+  pub room : recordLength (partiesOf sheet) ≤ length out
+
+-- and the record of a longer schedule agrees with that of a shorter
+abbrev pub LaterRun : List ℕ → List ℕ → List ℕ → List ℕ → Type 0
+LaterRun sheet proposals schedule out =
+    (more other : List ℕ) → Runs sheet proposals (schedule ++ more) other
+    → LastingRead (partiesOf sheet) (proposalIn proposals) (ofRecord (runBytes sheet proposals schedule out))
+    (ofRecord (runBytes sheet proposals (schedule ++ more) other))
+
+abbrev pub OverHostRuns : Type 0
+OverHostRuns =
+    (sheet proposals schedule out : List ℕ) → Runs sheet proposals schedule out
+    → OfHostRun sheet proposals schedule out × LaterRun sheet proposals schedule out
+
+-- ---- a built sheet is accepted, so all of this holds of it with proposals of 4 bytes each, and a session of 3,418
+
+pub record OfHostBuilt (kind bound n : ℕ) (proposals : List ℕ) : Type 0 where
+  pub calls : (session : List ℕ) → length session ≡ 3418 → (calls : List Move) → OfHost (builtSheet kind bound n) proposals session calls
+  pub run :
+      (schedule out : List ℕ) → T (all (byteOk n) schedule) → length schedule ≤ lastIndex → recordLength n ≤ length out
+      → OfHostRun (builtSheet kind bound n) proposals schedule out × LaterRun (builtSheet kind bound n) proposals schedule out
+
+abbrev pub OverHostBuilt : Type 0
+OverHostBuilt =
+    (kind bound n : ℕ) → Given kind bound n → (proposals : List ℕ) → Below 256 proposals → length proposals ≡ 4 * n
+    → OfHostBuilt kind bound n proposals

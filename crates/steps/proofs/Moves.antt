@@ -42,7 +42,7 @@ moves-on R (more (stopOf i) {ms} o os) = moves-on (by-stop i (o .0) (o .1) R) os
 
 -- ---- the moves on a way lead where it leads
 
-moved-append : (s : Session) (a b : List Move) → movedBy s (a ++ b) ≡ movedBy (movedBy s a) b
+pub moved-append : (s : Session) (a b : List Move) → movedBy s (a ++ b) ≡ movedBy (movedBy s a) b
 moved-append s [] b = refl
 moved-append s (m ∷ a) b = moved-append (moved s m) a b
 
