@@ -21,13 +21,16 @@ test:
 
 # FOR=seconds and SEED=number choose how long and with which inputs the comparison runs
 test-long: $(LIB) target/bin/lister
+	@echo "compiling the comparison, then $${FOR:-600} seconds of it"
 	@bash tests/compare.sh --seconds $${FOR:-600} --seed $${SEED:-1} --lister target/bin/lister
 
 # runs with schedules of 2^32 bytes, one less and some more (some minutes)
 test-huge: $(LIB)
+	@echo "compiling the comparison, then runs of 2^32 bytes"
 	@bash tests/compare.sh --only huge --seconds 0 --seed $${SEED:-1}
 
 bench: $(LIB)
+	@echo "compiling the bench, then each call beside plain Rust"
 	@bash tests/bench.sh
 
 lib: $(LIB)
@@ -43,13 +46,9 @@ stack: $(LIB)
 	@$(CC) -O2 -Wall -Wextra -Werror -Iinclude tests/stack.c $(LIB) -pthread -Wl,-z,now -o target/tests/stack
 	@target/tests/stack
 
-target/bin/lister: $(shell find crates -name '*.rt' -o -name '*.antt') crates.txt
-	@mkdir -p target
-	@rt check lister >target/lister.log 2>&1 || { tail -n 5 target/lister.log; exit 1; }
-
-$(LIB): $(shell find crates -name '*.rt' -o -name '*.antt') crates.txt
-	@mkdir -p target
-	@rt check host >target/host.log 2>&1 && rt staticlib host >>target/host.log 2>&1 || { tail -n 5 target/host.log; exit 1; }
+# the archive and the lister come from one check, also with -j2: two at once in one folder are in each other's way
+target/bin/lister $(LIB) &: $(shell find crates -name '*.rt' -o -name '*.antt') crates.txt
+	@bash tools/prove
 
 clean:
 	@rm -rf target dist
