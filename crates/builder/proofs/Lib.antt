@@ -4,7 +4,6 @@ pub mod Masks
 pub mod Kind1
 pub mod Kind2
 pub mod Built
-pub mod Written
 pub mod ReadBack
 pub mod Keeps
 pub mod Says

@@ -1,11 +1,9 @@
 -- A built sheet says what it was built from: the header's bytes and each row's 14 stand where they are read, and each number fits its bytes.
-use Prim.Native.Nat.{ℕ, zero, suc, _+_, _-_, _*_}
+use Prim.Native.Nat.{ℕ, _+_, _-_, _*_}
 use mathlib.Core.Path.{_≡_, refl, sym, ap, _∙_}
-use mathlib.Core.List.{List, [], _∷_, _++_, map}
-use native.Mathlib.Nat.{mul-zero, mul-suc}
+use mathlib.Core.List.{List, [], _++_, map, append-nil}
 use native.Mathlib.Omega.{arith}
 use lib.ListN.{length, getD, drop}
-use lib.Seq.{drop-append-add, drop-nil}
 use Rattle.sheet.specs.Lists.{flat}
 use Rattle.sheet.specs.Bytes.{num}
 use Rattle.sheet.specs.Rows.{layoutOf, slots, sheetLength, rowNumber, rowFrom}
@@ -15,6 +13,7 @@ use Rattle.sheet.specs.declared.rows.Slot.{Slot}
 use Rattle.builder.specs.Build.{rowBytes, headerBytes, builtRow, builtUnits, builtSheet}
 use Rattle.builder.specs.Given.{Given}
 use Rattle.sheet.proofs.Flat.{length-flat}
+use Rattle.sheet.proofs.InTurn.{stands}
 use Rattle.sheet.proofs.Slots.{length-slots, count-most, slot-row, slots-step}
 use Rattle.sheet.proofs.Numbers.{num-bytes}
 use Rattle.builder.proofs.Built.{Fits, built-fits, built-header}
@@ -29,16 +28,6 @@ row-back w rest f = λ i.
       own = num-bytes 2 (w .own) (f .own) i;
       pair = num-bytes 2 (w .pair) (f .pair) i;
     }
-
--- past the first k of some lists that are c long each
-drop-flat : {A B : Type 0} (f : A → List B) (c : ℕ) → ((x : A) → length (f x) ≡ c) → (xs : List A) (k : ℕ)
-    → drop (c * k) (flat (map f xs)) ≡ flat (map f (drop k xs))
-drop-flat {A} f c h [] k = drop-nil (c * k) ∙ ap (λ (ys : List A). flat (map f ys)) (sym (drop-nil k))
-drop-flat f c h (x ∷ xs) zero = ap (λ (j : ℕ). drop j (f x ++ flat (map f xs))) (mul-zero c)
-drop-flat f c h (x ∷ xs) (suc k) =
-    ap (λ (j : ℕ). drop j (f x ++ flat (map f xs))) (let e = mul-suc c k in let l = h x in let g : c * suc k ≡ length (f x) + c * k = omega arith in g)
-    ∙ drop-append-add (f x) (flat (map f xs)) (c * k)
-    ∙ drop-flat f c h xs k
 
 module _ (kind bound n : ℕ) (g : Given kind bound n) where
   pub length-sheet : length (builtSheet kind bound n) ≡ sheetLength n
@@ -66,7 +55,7 @@ module _ (kind bound n : ℕ) (g : Given kind bound n) where
       let bytes : Slot → List ℕ = λ q. rowBytes (builtRow kind bound q) in
       let at = slot-row n p h in
       ap rowFrom
-      (drop-append-add (headerBytes kind bound n (builtUnits kind bound n)) (flat (map bytes (slots n))) (14 * k)
-      ∙ drop-flat bytes 14 (λ _. refl) (slots n) k
-      ∙ ap (λ (ps : List Slot). flat (map bytes ps)) (slots-step n k p (g .numbers .partiesLeast) (at .0) (at .1)))
-      ∙ row-back (builtRow kind bound p) (flat (map bytes (drop (k + 1) (slots n)))) (built-fits kind bound n g p h)
+      (ap (drop (8 + 14 * k)) (sym (append-nil (builtSheet kind bound n)))
+      ∙ stands bytes 14 (λ _. refl) (headerBytes kind bound n (builtUnits kind bound n)) (slots n) k
+      (slots-step n k p (g .numbers .partiesLeast) (at .0) (at .1)) [] (8 + 14 * k) refl)
+      ∙ row-back (builtRow kind bound p) (flat (map bytes (drop (k + 1) (slots n))) ++ []) (built-fits kind bound n g p h)

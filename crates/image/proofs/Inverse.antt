@@ -8,7 +8,6 @@ use lib.Seq.{take-at, take-add, take-all, drop-at, drop-cons, drop-drop, length-
 use Rattle.sheet.specs.Lists.{from}
 use Rattle.sheet.specs.Bytes.{num, bytesOf}
 use Rattle.sheet.proofs.Numbers.{num-bytes, num-below}
-use Rattle.sheet.proofs.Ranges.{range-at}
 use Rattle.sheet.proofs.Flat.{length-flat}
 use Rattle.state.specs.Session.{noParty, ofParts}
 use Rattle.state.specs.declared.kept.Party.{Party}
@@ -84,14 +83,16 @@ length-parties ps l = length-flat partyImage 11 (λ p. refl) ps ∙ ap (λ (k : 
 proposals-back : (xs rest b : List ℕ) → length xs ≡ 16 → Below (2 ^ 32) xs → b ≡ proposalsBytes xs ++ rest → proposalsOf 16 b ≡ xs
 proposals-back xs rest b l low e =
     let read : List ℕ → ℕ = λ c. num c 0 4 in
-    ap (λ (n : ℕ). map (λ j. read (drop (4 * j) b)) (from 0 n)) (sym l)
-    ∙ cut-joined (bytesOf 4) read 4 (λ x. refl) xs 0 (λ k h r. num-bytes 4 (getD xs k 0) (low k h)) b rest 0 e
+    ap (λ (c : List ℕ). map (λ j. read (drop (4 * j) c)) (from 0 16)) e
+    ∙ ap (λ (n : ℕ). map (λ j. read (drop (4 * j) (proposalsBytes xs ++ rest))) (from 0 n)) (sym l)
+    ∙ cut-joined (bytesOf 4) read 4 (λ x. refl) xs 0 (λ k h r. num-bytes 4 (getD xs k 0) (low k h)) rest
 
 parties-back : (ps : List Party) (rest b : List ℕ) → length ps ≡ 16 → ((k : ℕ) → k < length ps → SizedParty (getD ps k noParty))
     → b ≡ partiesBytes ps ++ rest → partiesFrom b ≡ ps
 parties-back ps rest b l low e =
-    ap (λ (n : ℕ). map (λ j. partyFrom (drop (11 * j) b)) (from 0 n)) (sym l)
-    ∙ cut-joined partyImage partyFrom 11 (λ p. refl) ps noParty (λ k h. party-back (getD ps k noParty) (low k h)) b rest 0 e
+    ap partiesFrom e
+    ∙ ap (λ (n : ℕ). map (λ j. partyFrom (drop (11 * j) (partiesBytes ps ++ rest))) (from 0 n)) (sym l)
+    ∙ cut-joined partyImage partyFrom 11 (λ p. refl) ps noParty (λ k h. party-back (getD ps k noParty) (low k h)) rest
 
 proposals-again : (b : List ℕ) → 64 ≤ length b → Below 256 b → proposalsBytes (proposalsOf 16 b) ≡ take 64 b
 proposals-again b h low =

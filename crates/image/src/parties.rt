@@ -4,7 +4,7 @@ ghost use mathlib.Core.List.{_++_};
 ghost use Prim.Native.Nat.{_≤_};
 ghost use lib.ListN.{length, drop};
 ghost use Rattle.image.specs.Image.{partyImage, partiesBytes, partyFrom, partiesFrom};
-use crate::slices;
+use sheet::bytes;
 use state::Party;
 
 // The party of 11 bytes.
@@ -18,8 +18,8 @@ fn party_from(s: &[u8]) -> Party
         round: s[2],
         k: s[3],
         candidate: s[4],
-        steps: slices::two(s, 5),
-        decision: slices::four(s, 7),
+        steps: bytes::two(s[5], s[6]),
+        decision: bytes::four(s[7], s[8], s[9], s[10]),
     }
 }
 

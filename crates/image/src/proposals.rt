@@ -6,6 +6,7 @@ ghost use lib.ListN.{length, drop};
 ghost use Rattle.state.specs.Session.{filled};
 ghost use Rattle.image.specs.Image.{proposalsBytes, proposalsOf, proposalCount, proposalsIn};
 use crate::slices;
+use sheet::bytes;
 
 // The proposals that a slice holds, and zeros behind them.
 pub struct Proposals {
@@ -34,7 +35,8 @@ pub(crate) fn numbers_from(s: &[u8], n: usize) -> [u32; 16]
     let mut proposals = [0u32; 16];
     let mut j = 0;
     while j < n {
-        proposals[j] = slices::four(s, 4 * j);
+        let at = 4 * j;
+        proposals[j] = bytes::four(s[at], s[at + 1], s[at + 2], s[at + 3]);
         j += 1;
     }
     proposals

@@ -1,9 +1,9 @@
 // Slices of bytes: copies, zeros and numbers.
 ghost use mathlib.Core.Path.{_≡_};
 ghost use mathlib.Core.List.{_++_};
-ghost use Prim.Native.Nat.{_+_, _<_, _≤_};
+ghost use Prim.Native.Nat.{_+_, _≤_};
 ghost use lib.ListN.{length, take, drop, replicate};
-ghost use Rattle.sheet.specs.Bytes.{num, bytesOf};
+ghost use Rattle.sheet.specs.Bytes.{bytesOf};
 
 // The first n bytes, over the n bytes from a place on of another slice.
 pub(crate) fn copy(from: &[u8], n: usize, to: &mut [u8], at: usize)
@@ -27,29 +27,6 @@ pub(crate) fn put_zeros(to: &mut [u8], at: usize, n: usize)
         to[at + j] = 0;
         j += 1;
     }
-}
-
-fn wide(x: u8) -> u32
-    ensures { λ r. ⌜ r ≡ x ⌝ }
-    ensures { λ r. ⌜ r < 256 ⌝ }
-{
-    x as u32
-}
-
-// The number of four bytes.
-pub(crate) fn four(s: &[u8], at: usize) -> u32
-    requires { ⌜ at + 4 ≤ length (now s) ⌝ }
-    ensures { λ r. ⌜ r ≡ num (now (s .entry)) at 4 ⌝ }
-{
-    wide(s[at]) * 16777216 + wide(s[at + 1]) * 65536 + wide(s[at + 2]) * 256 + wide(s[at + 3])
-}
-
-// The number of two bytes.
-pub(crate) fn two(s: &[u8], at: usize) -> u16
-    requires { ⌜ at + 2 ≤ length (now s) ⌝ }
-    ensures { λ r. ⌜ r ≡ num (now (s .entry)) at 2 ⌝ }
-{
-    (wide(s[at]) * 256 + wide(s[at + 1])) as u16
 }
 
 // A number's 4 bytes, at the start of what is lent.

@@ -5,6 +5,7 @@ pub mod Numbers
 pub mod Ranges
 pub mod Parts
 pub mod Flat
+pub mod InTurn
 pub mod Slots
 pub mod FirstBad
 pub mod WriteSets

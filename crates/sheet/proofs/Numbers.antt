@@ -25,13 +25,17 @@ taken-from s place j (suc n) h =
     ∙ ap (λ (l : List ℕ). getD s (place + j) 0 ∷ l) (taken-from s place (suc j) n (omega arith))
 
 -- a number is that of the n bytes at the place, the one after it, ..
-pub num-read : (s : List ℕ) (place n : ℕ) → place + n ≤ length s → num s place n ≡ bigFrom 0 (map (λ k. getD s (place + k) 0) (from 0 n))
+num-read : (s : List ℕ) (place n : ℕ) → place + n ≤ length s → num s place n ≡ bigFrom 0 (map (λ k. getD s (place + k) 0) (from 0 n))
 num-read s place n h =
     ap (λ (i : ℕ). bigFrom 0 (take n (drop i s))) (sym (add-zero place)) ∙ ap (bigFrom 0) (taken-from s place 0 n (omega arith))
 
--- the number of two bytes that were read one by one
+-- so it is of two bytes, and of four, that were read one by one
 pub num-two : (s : List ℕ) (place : ℕ) → place + 2 ≤ length s → big (getD s place 0 ∷ getD s (place + 1) 0 ∷ []) ≡ num s place 2
 num-two s place h = rw (num-read s place 2 h, add-zero)
+
+pub num-four : (s : List ℕ) (place : ℕ) → place + 4 ≤ length s
+    → big (getD s place 0 ∷ getD s (place + 1) 0 ∷ getD s (place + 2) 0 ∷ getD s (place + 3) 0 ∷ []) ≡ num s place 4
+num-four s place h = rw (num-read s place 4 h, add-zero)
 
 -- bytes after those of acc
 big-after : (acc : ℕ) (xs : List ℕ) → bigFrom acc xs ≡ acc * 256 ^ length xs + bigFrom 0 xs

@@ -9,8 +9,8 @@ use native.Mathlib.Numerals.{add-one}
 use native.Mathlib.Omega.{arith}
 use borrow.Author.Tests.{ltb-true, ltb-false, le-leb}
 use lib.Dec.{T, ltb}
-use lib.ListN.{length, getD, drop, take, length-append, List·getD-append}
-use lib.Seq.{getD-append-add, drop-cons, drop-length, take-suc}
+use lib.ListN.{length, getD, drop, length-append, List·getD-append}
+use lib.Seq.{getD-append-add, drop-cons, drop-length}
 use Rattle.sheet.specs.Lists.{from, all, flat}
 use Rattle.sheet.specs.Rows.{slot, slots, nextSlot, slotAfter, rowCount, rowNumber}
 use Rattle.sheet.specs.Words.{IsSlot}
@@ -198,14 +198,6 @@ slots-step n k p one h l =
 
 pub slots-end : (n k : ℕ) → 1 ≤ n → k ≡ rowCount n → drop k (slots n) ≡ []
 slots-end n k one e = ap (λ (j : ℕ). drop j (slots n)) (e ∙ sym (length-slots n one)) ∙ drop-length (slots n)
-
-pub slots-taken : (n k : ℕ) (p : Slot) → 1 ≤ n → AtRow k p → k < rowCount n → take (k + 1) (slots n) ≡ take k (slots n) ++ (p ∷ [])
-slots-taken n k p one h l =
-    let size = length-slots n one in
-    let e : rowNumber p - 1 ≡ k = (let f = h .number in omega arith) in
-    ap (λ (j : ℕ). take j (slots n)) (add-one k)
-    ∙ take-suc (slots n) k p (omega arith)
-    ∙ ap (λ (x : Slot). take k (slots n) ++ (x ∷ [])) (ap (λ (j : ℕ). getD (slots n) j p) (sym e) ∙ slots-at n p p (at-slot n k p h l))
 
 -- every number up to the last has its row
 pub row-at : (k : ℕ) → (p : Slot) × AtRow k p

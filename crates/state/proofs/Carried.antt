@@ -9,7 +9,7 @@ use lib.Seq.{take-all, take-length, getD-take}
 use Rattle.sheet.specs.Bytes.{num}
 use Rattle.sheet.specs.Rows.{layoutOf, partiesOf}
 use Rattle.rules.specs.Words.{Rules6}
-use Rattle.sheet.proofs.Numbers.{num-read}
+use Rattle.sheet.proofs.Numbers.{num-two}
 use Rattle.state.specs.Session.{carriedOf}
 
 -- the front that the copy has
@@ -44,8 +44,8 @@ module _ (s : List ℕ) (r : Rules6 (carriedOf s)) where
       let f = field in
       let w = whole in
       let l = length-take (num s 0 2) s in
-      num-read (carriedOf s) 6 2 (omega arith)
-      ∙ rw (getD-take (num s 0 2) s 6 0 (omega arith), getD-take (num s 0 2) s 7 0 (omega arith), num-read s 6 2 (omega arith))
+      sym (num-two (carriedOf s) 6 (omega arith))
+      ∙ rw (getD-take (num s 0 2) s 6 0 (omega arith), getD-take (num s 0 2) s 7 0 (omega arith)) (num-two s 6 (omega arith))
 
   pub copy-whole : 8 ≤ length s
   copy-whole = let l = length-take (num s 0 2) s in let w = whole in omega arith

@@ -1,7 +1,7 @@
 // Whether a session is well formed: a function for each group of clauses.
 ghost use mathlib.Core.Path.{_≡_};
 ghost use mathlib.Core.Bool.{cond};
-ghost use Prim.Native.Nat.{_+_, _-_, _/_, _%_, _≤_, _<_, min};
+ghost use Prim.Native.Nat.{_+_, _-_, _/_, _%_, _≤_, min};
 ghost use lib.ListN.{length, getD, take};
 ghost use lib.Dec.{leb, ltb, eqb};
 ghost use Rattle.sheet.specs.Lists.{from, all, within};
@@ -13,27 +13,14 @@ use crate::kept::Party;
 use crate::kept::Session;
 use crate::kept::cell_of;
 use answers::Verdict;
-
-fn size(x: u8) -> usize
-    ensures { λ r. ⌜ r ≡ x ⌝ }
-    ensures { λ r. ⌜ r < 256 ⌝ }
-{
-    x as usize
-}
-
-// The number of two bytes.
-fn two(s: &[u8], at: usize) -> usize
-    requires { ⌜ at + 2 ≤ length (now s) ⌝ }
-    ensures { λ r. ⌜ r ≡ num (now (s .entry)) at 2 ⌝ }
-{
-    size(s[at]) * 256 + size(s[at + 1])
-}
+use sheet::bytes;
 
 // How many bytes of the copy the carried sheet has.
 pub fn carried_length(sheet: &[u8; 1898]) -> usize
     ensures { λ r. ⌜ r ≡ min (num (now (sheet .entry)) 0 2) 1898 ⌝ }
 {
-    let field = two(sheet, 0);
+    let s: &[u8] = sheet;
+    let field = bytes::two(s[0], s[1]) as usize;
     if field < 1898 { field } else { 1898 }
 }
 
@@ -111,7 +98,7 @@ fn published_ok(published: &[u8; 256], n: usize) -> bool
     let mut j = 0;
     while j < 256 {
         let most = most_published(n, j);
-        if most < size(published[j]) {
+        if most < bytes::size(published[j]) {
             return false;
         }
         j += 1;
@@ -312,7 +299,7 @@ pub fn parts_well_formed<'a>(
         return false;
     }
     let n = sheet[5];
-    if !marks_ok(marks, two(sheet, 6)) {
+    if !marks_ok(marks, bytes::two(sheet[6], sheet[7]) as usize) {
         return false;
     }
     if !published_ok(published, n as usize) {

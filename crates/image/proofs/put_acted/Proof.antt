@@ -20,7 +20,7 @@ after1 : (c : tie.After-copy) → Written (start1 c .args .bytes .now) (front (s
 after1 c =
     let s = start1 c in
     let b = s .args .bytes .now in
-    then-copied b (take 1962 b) 1962 b (kept b 1962 (omega (arith, s .pre))) (s .args .marks .now) (c .copy .last .1 .1 .0) 1024
+    then-copied (kept b 1962 (omega (arith, s .pre))) (s .args .marks .now) (c .copy .last .1 .1 .0) 1024
     (c .before .before .copy-arg .given .0) (c .copy .ensures)
 
 returns : tie.Need-returns
@@ -31,10 +31,9 @@ returns c =
     let s = start1 call1 in
     let b = s .args .bytes .now in
     let after2 =
-    then-copied b (front s) 2986 (call1 .copy .last .1 .1 .0) (after1 call1)
-    (s .args .published .now) (call2 .copy2 .last .1 .1 .0) 256 (call2 .before .before .copy-arg3 .given .0) (call2 .copy2 .ensures) in
-    then-full b (front s ++ s .args .published .now) 3242 (call2 .copy2 .last .1 .1 .0) after2
-    (partiesBytes (s .args .parties)) (put .put-parties .last .0) 176 (s .pre) (put .put-parties .ensures)
+    then-copied (after1 call1) (s .args .published .now) (call2 .copy2 .last .1 .1 .0) 256
+    (call2 .before .before .copy-arg3 .given .0) (call2 .copy2 .ensures) in
+    then-full after2 (partiesBytes (s .args .parties)) (put .put-parties .last .0) 176 (s .pre) (put .put-parties .ensures)
 
 pub put-acted-spec : {M : Type 1} → statement M
 put-acted-spec =

@@ -9,7 +9,7 @@ use borrow.Rule.Slice.PartMut.{putMid}
 use lib.ListN.{length, replicate, length-replicate, replicate-append-replicate}
 use Rattle.state.specs.Session.{filled}
 use Rattle.image.specs.Image.{proposalsBytes, partiesBytes}
-use Rattle.image.proofs.Written.{Written, up-to, then-put, then-copied, then-lent, then-full}
+use Rattle.image.proofs.Written.{Written, kept, up-to, then-put, then-copied, then-lent, then-full}
 use Rattle.image.proofs.Inverse.{length-proposals}
 use Rattle.image.proofs.put_fresh.Statement.{statement}
 use Rattle.image.proofs.put_fresh.Tie as tie
@@ -43,10 +43,9 @@ start0 c = c .before .before .before .before
 after0 : (c : tie.After-copy) → let s = start0 c in Upto s (s .args .sheet .now) (length (s .args .sheet .now)) (c .copy .last .1 .1 .0)
 after0 c =
     let s = start0 c in
-    let o = s .args .bytes .now in
     let sheet = s .args .sheet .now in
     up-to (zero-add (length sheet))
-    (then-copied o [] 0 o (record { size = refl; is = refl }) sheet (c .copy .last .1 .1 .0) (length sheet) refl (c .copy .ensures))
+    (then-copied (kept (s .args .bytes .now) 0 (omega arith)) sheet (c .copy .last .1 .1 .0) (length sheet) refl (c .copy .ensures))
 
 abbrev call0 : tie.After-put-zeros → tie.After-copy
 call0 c = c .before .before .before .before
@@ -62,8 +61,7 @@ after1 c =
     let (few, size) = s .pre in
     let e : length sheet + rest ≡ 1898 = omega arith in
     up-to e
-    (then-put (s .args .bytes .now) sheet (length sheet) (call0 c .copy .last .1 .1 .0) (after0 (call0 c))
-    (replicate rest 0) (c .put-zeros .last .0) rest (length-replicate {A = ℕ} rest 0) (c .put-zeros .ensures))
+    (then-put (after0 (call0 c)) (replicate rest 0) (c .put-zeros .last .0) rest (length-replicate {A = ℕ} rest 0) (c .put-zeros .ensures))
 
 abbrev call1 : tie.After-put-proposals → tie.After-put-zeros
 call1 c = c .before .before .before .before
@@ -77,8 +75,7 @@ bytes2 c = let o = call1 c .put-zeros .last .0 in putMid 1898 (length o - 1898) 
 after2 : (c : tie.After-put-proposals) → Upto (start2 c) (front2 (start2 c)) 1962 (bytes2 c)
 after2 c =
     let s = start2 c in
-    then-lent (s .args .bytes .now) (front1 s) 1898 (call1 c .put-zeros .last .0) (after1 (call1 c))
-    (proposalsBytes (s .args .proposals)) (c .put-proposals .last .0) 64 (proposals-long s) (c .put-proposals .ensures)
+    then-lent (after1 (call1 c)) (proposalsBytes (s .args .proposals)) (c .put-proposals .last .0) 64 (c .put-proposals .ensures) (proposals-long s)
 
 abbrev call2 : tie.After-put-zeros2 → tie.After-put-proposals
 call2 c = c .before .before .before .before
@@ -87,10 +84,7 @@ abbrev start3 : tie.After-put-zeros2 → tie.Start
 start3 c = start2 (call2 c)
 
 after3 : (c : tie.After-put-zeros2) → Upto (start3 c) (front3 (start3 c)) 3242 (c .put-zeros2 .last .0)
-after3 c =
-    let s = start3 c in
-    then-put (s .args .bytes .now) (front2 s) 1962 (bytes2 (call2 c)) (after2 (call2 c))
-    (replicate 1280 0) (c .put-zeros2 .last .0) 1280 (length-replicate {A = ℕ} 1280 0) (c .put-zeros2 .ensures)
+after3 c = then-put (after2 (call2 c)) (replicate 1280 0) (c .put-zeros2 .last .0) 1280 (length-replicate {A = ℕ} 1280 0) (c .put-zeros2 .ensures)
 
 returns : tie.Need-returns
 returns c =
@@ -98,8 +92,7 @@ returns c =
     let call3 = put .before .before .before .before in
     let s = start3 call3 in
     let parties = partiesBytes (s .args .parties) in
-    then-full (s .args .bytes .now) (front3 s) 3242 (call3 .put-zeros2 .last .0) (after3 call3) parties (put .put-parties .last .0) 176
-    (s .pre .1) (put .put-parties .ensures)
+    then-full (after3 call3) parties (put .put-parties .last .0) 176 (s .pre .1) (put .put-parties .ensures)
     ∙ two-zeros (front2 s) parties 1024 256
 
 pub put-fresh-spec : {M : Type 1} → statement M

@@ -3,7 +3,7 @@ use mathlib.Core.Path.{refl}
 use native.Mathlib.Omega.{arith}
 use borrow.Author.Needs.{needs}
 use borrow.Author.Tests.{eq-eqb, ne-eqb}
-use lib.ListN.{length, take}
+use lib.ListN.{length}
 use Rattle.image.specs.Image.{partiesBytes}
 use Rattle.image.proofs.Chosen.{where-held, where-failed}
 use Rattle.image.proofs.Written.{kept, then-full}
@@ -18,7 +18,7 @@ returns c =
     let b = a .bytes .now in
     let l = past .if1 .taken in
     where-held _ _ _ (eq-eqb (length b) 3418 l)
-    (then-full b (take 3242 b) 3242 b (kept b 3242 (omega arith)) (partiesBytes (a .parties)) (put .put-parties .last .0) 176 l (put .put-parties .ensures))
+    (then-full (kept b 3242 (omega arith)) (partiesBytes (a .parties)) (put .put-parties .last .0) 176 l (put .put-parties .ensures))
 
 returns-2 : tie.Need-returns-2
 returns-2 c = where-failed _ _ _ (ne-eqb (length (c .before .before .args .bytes .now)) 3418 (c .if1 .left)) refl

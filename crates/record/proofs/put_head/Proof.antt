@@ -8,12 +8,6 @@ use Rattle.record.specs.Record.{recordHead}
 use Rattle.record.proofs.put_head.Statement.{statement}
 use Rattle.record.proofs.put_head.Tie as tie
 
-slice-write-o-2 : tie.Need-slice-write-o-2
-slice-write-o-2 c = simp length-set (omega arith)
-
-slice-write-o-3 : tie.Need-slice-write-o-3
-slice-write-o-3 c = simp length-set (omega arith)
-
 returns : tie.Need-returns
 returns c = simp div-one (simp div-one at (sets-eq (recordHead (c .args .n)) (c .args .o .now) 0 (omega arith)))
 
@@ -26,8 +20,8 @@ put-head-spec =
     (λ c. search needs)
     (λ c. search needs)
     (λ c. search needs)
-    slice-write-o-2
-    slice-write-o-3
+    (λ c. simp length-set (omega arith))
+    (λ c. simp length-set (omega arith))
     (λ c. search needs)
     (λ c. search needs)
     returns)

@@ -8,24 +8,6 @@ use Rattle.record.specs.Record.{partyRecord}
 use Rattle.record.proofs.put_party.Statement.{statement}
 use Rattle.record.proofs.put_party.Tie as tie
 
-slice-write-o-2 : tie.Need-slice-write-o-2
-slice-write-o-2 c = simp length-set (omega arith)
-
-slice-write-o-3 : tie.Need-slice-write-o-3
-slice-write-o-3 c = simp length-set (omega arith)
-
-slice-write-o-4 : tie.Need-slice-write-o-4
-slice-write-o-4 c = simp length-set (omega arith)
-
-slice-write-o-5 : tie.Need-slice-write-o-5
-slice-write-o-5 c = simp length-set (omega arith)
-
-slice-write-o-6 : tie.Need-slice-write-o-6
-slice-write-o-6 c = simp length-set (omega arith)
-
-slice-write-o-7 : tie.Need-slice-write-o-7
-slice-write-o-7 c = simp length-set (omega arith)
-
 returns : tie.Need-returns
 returns c = simp div-one (simp div-one at (sets-eq (partyRecord (c .args .p)) (c .args .o .now) 0 (omega arith)))
 
@@ -35,16 +17,16 @@ put-party-spec =
     (tie.spec
     (λ c. search needs)
     (λ c. search needs)
-    slice-write-o-2
+    (λ c. simp length-set (omega arith))
     (λ c. search needs)
-    slice-write-o-3
+    (λ c. simp length-set (omega arith))
     (λ c. search needs)
-    slice-write-o-4
+    (λ c. simp length-set (omega arith))
     (λ c. search needs)
-    slice-write-o-5
+    (λ c. simp length-set (omega arith))
     (λ c. search needs)
-    slice-write-o-6
+    (λ c. simp length-set (omega arith))
     (λ c. search needs)
-    slice-write-o-7
+    (λ c. simp length-set (omega arith))
     (λ c. search needs)
     returns)

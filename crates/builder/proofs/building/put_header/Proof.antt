@@ -39,27 +39,6 @@ cast-put-two c =
     let most = count-most (start .args .parties) (start .pre .0 .numbers .partiesMost) in
     omega (arith, c .sheet-length .ensures)
 
-cast-o : tie.Need-cast-o
-cast-o c = omega (arith, kind-most (entry c .pre .0 .numbers))
-
-cast-o-2 : tie.Need-cast-o-2
-cast-o-2 c = omega (arith, entry c .pre .0 .numbers)
-
-cast-o-3 : tie.Need-cast-o-3
-cast-o-3 c = omega (arith, entry c .pre .0 .numbers)
-
-slice-write-o-2 : tie.Need-slice-write-o-2
-slice-write-o-2 c = simp length-set (omega arith)
-
-slice-write-o-3 : tie.Need-slice-write-o-3
-slice-write-o-3 c = simp length-set (omega arith)
-
-slice-write-o-4 : tie.Need-slice-write-o-4
-slice-write-o-4 c = simp length-set (omega arith)
-
-put-two-requires-2 : tie.Need-put-two-requires-2
-put-two-requires-2 c κs = simp length-set (omega arith)
-
 same-length : tie.Need-same-length
 same-length c =
     let second = c .before .before in
@@ -86,9 +65,9 @@ put-header-spec =
     (tie.spec
     cast-sheet-length (λ c κs. search needs) cast-put-two (λ c κs. search needs)
     (λ c. search needs)
-    cast-o slice-write-o-2
-    cast-o-2 slice-write-o-3
-    cast-o-3 slice-write-o-4
-    (λ c κs. search needs) put-two-requires-2
+    (λ c. omega (arith, kind-most (entry c .pre .0 .numbers))) (λ c. simp length-set (omega arith))
+    (λ c. omega (arith, entry c .pre .0 .numbers)) (λ c. simp length-set (omega arith))
+    (λ c. omega (arith, entry c .pre .0 .numbers)) (λ c. simp length-set (omega arith))
+    (λ c κs. search needs) (λ c κs. simp length-set (omega arith))
     same-length
     returns)

@@ -10,9 +10,6 @@ use Rattle.sheet.specs.Bytes.{bytesOf}
 use Rattle.builder.proofs.building.put_two.Statement.{statement}
 use Rattle.builder.proofs.building.put_two.Tie as tie
 
-slice-write-o-2 : tie.Need-slice-write-o-2
-slice-write-o-2 c = simp length-set (omega arith)
-
 returns : tie.Need-returns
 returns c =
     let args = c .args in
@@ -23,6 +20,6 @@ put-two-spec =
     tie.close
     (tie.spec
     (λ c. search needs) (λ c. search needs) (λ c. search needs) (λ c. search needs)
-    slice-write-o-2
+    (λ c. simp length-set (omega arith))
     (λ c. search needs)
     returns)

@@ -1,17 +1,20 @@
 -- The parties are written one behind the other, 11 bytes each.
-use Prim.Native.Nat.{_-_, _≤_}
+use Prim.Native.Nat.{_-_, _*_, _≤_}
 use mathlib.Core.Path.{_≡_, refl, _∙_}
+use mathlib.Core.List.{[]}
 use native.Mathlib.Omega.{arith}
 use borrow.Author.Needs.{needs}
 use lib.ListN.{length, length-take, length-drop}
+use lib.Seq.{drop-cons}
 use Rattle.state.specs.Session.{noParty}
 use Rattle.image.specs.Image.{partyImage}
-use Rattle.image.proofs.Written.{InTurn, turn, turned}
+use Rattle.sheet.proofs.Parts.{Written}
+use Rattle.sheet.proofs.InTurn.{upTo, turn, turned}
 use Rattle.image.proofs.parties.put_parties.Statement.{statement}
 use Rattle.image.proofs.parties.put_parties.Tie as tie
 
 abbrev Inv-loop : tie.InvT-loop
-Inv-loop o₀ parties j₀ o j = (j ≤ 16) × (length o ≡ length o₀) × InTurn partyImage 11 parties o₀ o j
+Inv-loop o₀ parties j₀ o j = (j ≤ 16) × (length o ≡ length o₀) × Written o₀ (upTo partyImage [] parties j) (11 * j) o
 
 abbrev μ-loop : tie.MeasureT-loop
 μ-loop o₀ parties j₀ o j = 16 - j
@@ -30,11 +33,11 @@ loop-again c =
     let call = c .before .before in
     let l = call .before .before .before .before .loop in
     let start = call .before .before .before .before .before .before in
-    let all = whole start in (
+    let all = whole start in
+    let xs = start .args .t2 in (
       search needs,
       omega (arith, c .before .o .given .1),
-      turn partyImage 11 (start .args .t2) (start .args .o .now) (l .o) (call .put-party .last .0) (l .j) noParty (omega arith) refl
-          (call .put-party .ensures) (l .inv .2),
+      turn partyImage 11 (λ _. refl) [] xs (l .j) (drop-cons xs (l .j) noParty (omega arith)) (omega arith) (call .put-party .ensures) (l .inv .2),
     )
 
 returns : tie.Need-returns Inv-loop μ-loop
@@ -43,7 +46,7 @@ returns c =
     let start = c .before .before .before in
     let all = whole start in
     let end : l .j ≡ 16 = omega arith in
-    turned partyImage 11 (start .args .t2) (start .args .o .now) (l .o) (l .j) (omega arith) (l .inv .2) ∙ rw end
+    turned partyImage 11 (λ _. refl) [] (start .args .t2) (l .j) (omega arith) (l .inv .2) ∙ rw end
 
 pub put-parties-spec : {M : Type 1} → statement M
 put-parties-spec =

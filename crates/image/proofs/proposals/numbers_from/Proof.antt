@@ -5,6 +5,7 @@ use native.Mathlib.Nat.{zero-add}
 use native.Mathlib.Omega.{arith}
 use borrow.Author.Needs.{needs}
 use Rattle.sheet.specs.Bytes.{num}
+use Rattle.sheet.proofs.Numbers.{num-four}
 use Rattle.state.proofs.Copies.{Front, front-first, front-on, front-end, range-at, length-range}
 use Rattle.image.specs.Image.{proposalsOf}
 use Rattle.image.proofs.proposals.numbers_from.Statement.{statement}
@@ -21,8 +22,9 @@ loop-holds c = (search needs, front-first 16 0 (proposalsOf (c .before .args .n)
 
 loop-again : tie.Need-loop-again Inv-loop μ-loop
 loop-again c =
-    let l = c .before .before .loop in
-    let a = c .before .before .before .before .args in
+    let at-loop = c .before .before .before .before .before .before in
+    let l = at-loop .loop in
+    let a = at-loop .before .before .args in
     let s = a .s .now in
     let n = a .n in
     let read : ℕ → ℕ = λ j. num s (4 * j) 4 in
@@ -30,7 +32,7 @@ loop-again c =
     let size = length-range read 0 n in (
       search needs,
       front-on 16 0 (proposalsOf n s) (l .proposals) (l .j) (l .j + 1) (c .four .result) 0 (omega arith) (omega arith)
-          (c .four .ensures ∙ sym own) refl (l .inv .1),
+          (c .four .ensures ∙ num-four s (4 * l .j) (omega arith) ∙ sym own) refl (l .inv .1),
     )
 
 returns : tie.Need-returns Inv-loop μ-loop
@@ -47,8 +49,12 @@ numbers-from-spec =
     Inv-loop
     μ-loop
     loop-holds
-    (λ c. search needs)
-    (λ c κs. omega arith)
+    (λ c. omega arith)
+    (λ c. omega arith)
+    (λ c. omega arith) (λ c. omega arith)
+    (λ c. omega arith) (λ c. omega arith)
+    (λ c. omega arith) (λ c. omega arith)
+    (λ c κs. search needs)
     (λ c. omega arith)
     (λ c. omega arith)
     (λ c. search needs)

@@ -6,6 +6,7 @@ use borrow.Author.Needs.{needs}
 use Rattle.sheet.specs.Rows.{partiesOf}
 use Rattle.rules.specs.Words.{Rules6}
 use Rattle.sheet.proofs.Folds.{held, fails, failed}
+use Rattle.sheet.proofs.Numbers.{num-two}
 use Rattle.state.specs.Session.{ofParts, carried, layout}
 use Rattle.state.specs.WellFormed.{carriedOk, marksOk, publishedOk, proposalsOk, partiesOk, wellFormed}
 use Rattle.state.specs.declared.kept.Session.{Session}
@@ -23,7 +24,7 @@ abbrev start : tie.Else1 → tie.Start
 start c = c .before .before
 
 abbrev first : tie.Else2 → tie.Else1
-first c = c .before .before .before .before .before
+first c = c .before .before .before .before .before .before
 
 abbrev second : tie.Else3 → tie.Else2
 second c = c .before .before
@@ -40,11 +41,12 @@ count : (c : tie.Else1) → partiesOf (session (start c) .sheet) ≡ layout (ses
 count c = sym (carried-parties (session (start c) .sheet) (accepted c))
 
 marks : (c : tie.After-marks-ok)
-    → let s = session (start (c .before .before .before .before)) in c .marks-ok .result ≡ marksOk (layout s .units) (s .marks)
+    → let s = session (start (c .before .before .before .before .before)) in c .marks-ok .result ≡ marksOk (layout s .units) (s .marks)
 marks c =
-    let before = c .before .before .before .before in
+    let before = c .before .before .before .before .before in
     let s = session (start before) in
-    let units = c .before .two .ensures ∙ sym (carried-units (s .sheet) (accepted before)) in
+    let rules = accepted before in
+    let units = c .before .two .ensures ∙ num-two (s .sheet) 6 (copy-whole (s .sheet) rules) ∙ sym (carried-units (s .sheet) rules) in
     c .marks-ok .ensures ∙ ap (λ (n : ℕ). marksOk n (s .marks)) units
 
 published : (c : tie.After-published-ok)
@@ -59,9 +61,6 @@ proposals c =
     let before = first (second (c .before)) in
     c .proposals-ok .ensures ∙ ap (λ (n : ℕ). proposalsOk n (session (start before) .proposals)) (count before)
 
-two-requires : tie.Need-two-requires
-two-requires c κs = let before = c .before .before in copy-whole (session (start before) .sheet) (accepted before)
-
 returns : tie.Need-returns
 returns c =
     let s = session (c .before .before) in
@@ -69,7 +68,7 @@ returns c =
 
 returns-2 : tie.Need-returns-2
 returns-2 c =
-    let s = session (start (c .before .before .before .before .before)) in
+    let s = session (start (c .before .before .before .before .before .before)) in
     sym (fails (wellFormed s) (λ t. failed _ (stopped (marks (c .before)) (c .if2 .taken)) (passed-says s .0 t .marks)))
 
 returns-3 : tie.Need-returns-3
@@ -116,7 +115,10 @@ parts-well-formed-spec =
     (λ c κs. search needs)
     returns
     (λ c. search needs)
-    two-requires
+    (λ c. search needs)
+    (λ c. search needs)
+    (λ c κs. search needs)
+    (λ c. search needs)
     (λ c κs. search needs)
     returns-2
     cast-published-ok
