@@ -119,13 +119,6 @@ pub fn row_at(s: &[u8], row: usize) -> Taken
 
 // ---- the reader
 
-// A reader at the sheet's first row.
-pub fn rows_of<'a>(sheet: &'a [u8]) -> RowReader<'a>
-    ensures { λ r. ⌜ (r .sheet ≡ sheet .entry) × (r .row ≡ 0) ⌝ }
-{
-    RowReader { sheet, row: 0 }
-}
-
 // A reader at any row.
 pub fn rows_from<'a>(sheet: &'a [u8], row: usize) -> RowReader<'a>
     ensures { λ r. ⌜ (r .sheet ≡ sheet .entry) × (r .row ≡ row) ⌝ }
