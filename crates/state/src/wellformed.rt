@@ -10,7 +10,6 @@ ghost use Rattle.rules.specs.Check.{checkAnswer};
 ghost use Rattle.state.specs.Session.{ofParts};
 ghost use Rattle.state.specs.WellFormed.{carriedOk, marksOk, isLower, publishedOk, proposalsOk, same, roundOk, scanOk, lowerOk, topOk, idleOk, unstartedOk, decisionOk, statusOk, rangesOk, partyOk, unusedOk, partiesOk, wellFormed};
 use crate::kept::Party;
-use crate::kept::Session;
 use crate::kept::cell_of;
 use answers::Verdict;
 
@@ -322,12 +321,4 @@ pub fn parts_well_formed<'a>(
         return false;
     }
     parties_ok(n, published, parties)
-}
-
-// Every clause, of a session.
-pub fn is_well_formed(s: Session) -> bool
-    ensures { λ r. ⌜ r ≡ wellFormed s ⌝ }
-{
-    let parties = s.parties;
-    parts_well_formed(&s.sheet, &s.proposals, &s.marks, &s.published, parties)
 }
