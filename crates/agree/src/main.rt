@@ -4,8 +4,13 @@ mod told;
 ghost use mathlib.Core.Path.{_≡_};
 ghost use Rattle.steps.specs.Calls.{stepped, stopped};
 ghost use Rattle.steps.specs.Trace.{call, called};
+use sheet::sizes::HEADER_LENGTH;
+use sheet::sizes::ROW_LENGTH;
 use state::Session;
 use state::opening;
+
+// The sheet of three parties.
+const SHEET: usize = HEADER_LENGTH + 5 * ROW_LENGTH;
 
 // A step of a party.
 fn step(s: Session, party: u32) -> Session
@@ -58,7 +63,7 @@ fn live(s: Session) {
 
 // Party 3 has written in its round when party 2 is stopped. Then 1 and 3 go on until they have decided, and one step more of 1 changes nothing.
 fn main() {
-    let mut sheet = [0u8; 78];
+    let mut sheet = [0u8; SHEET];
     builder::build(1, 5, 3, &mut sheet);
     let opened = opening::open_value(&sheet, &[500, 600, 700]);
     let first = call_all(opened.session, &[1, 1, 2, 3, 3, 130]);

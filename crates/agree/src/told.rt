@@ -1,6 +1,7 @@
 // What is printed.
 use libc::STDOUT_FILENO;
 use state::Party;
+use state::Status;
 use steps::reply::Reply;
 
 fn word(text: &[u8]) {
@@ -24,9 +25,9 @@ pub(crate) fn reply(text: &[u8], reply: Reply) {
 
 fn status(status: u8) {
     match status {
-        0 => word(b" idle"),
-        1 => word(b" running"),
-        2 => word(b" decided"),
+        Status::IDLE => word(b" idle"),
+        Status::RUNNING => word(b" running"),
+        Status::DECIDED => word(b" decided"),
         _ => word(b" stopped"),
     }
 }
@@ -36,7 +37,7 @@ pub(crate) fn party(i: u32, p: Party) {
     number(b"", i);
     status(p.status);
     number(b" ", p.steps as u32);
-    if p.status == 2 {
+    if p.status == Status::DECIDED {
         number(b" ", p.decision);
     } else {
         word(b" -");
