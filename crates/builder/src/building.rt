@@ -11,6 +11,18 @@ ghost use Rattle.builder.specs.Given.{InRange, Given};
 use sheet::rows;
 use sheet::rows::Row;
 use sheet::rows::Slot;
+use sheet::sizes::BOUND_AT;
+use sheet::sizes::HEADER_LENGTH;
+use sheet::sizes::KIND_AT;
+use sheet::sizes::LENGTH_AT;
+use sheet::sizes::OWN_AT;
+use sheet::sizes::PAIR_AT;
+use sheet::sizes::PARTIES_AT;
+use sheet::sizes::ROW_LENGTH;
+use sheet::sizes::START_AT;
+use sheet::sizes::UNITS_AT;
+use sheet::sizes::VERSION;
+use sheet::sizes::VERSION_AT;
 
 fn is_given1(bound: u32, parties: u32) -> bool
     ensures { λ r. ⌜ r ≡ given 1 bound parties ⌝ }
@@ -172,10 +184,10 @@ fn put_row(o: &mut [u8], w: Row)
     requires { ⌜ 14 ≤ length (now o) ⌝ }
     ensures { λ _. ⌜ now (o .exit) ≡ rowBytes w ++ drop 14 (now (o .entry)) ⌝ }
 {
-    put_two(o, 0, w.start);
+    put_two(o, START_AT, w.start);
     put_mask(o, w.mask);
-    put_two(o, 10, w.own);
-    put_two(o, 12, w.pair);
+    put_two(o, OWN_AT, w.own);
+    put_two(o, PAIR_AT, w.pair);
 }
 
 // The header's 8 bytes.
@@ -183,12 +195,12 @@ fn put_header(o: &mut [u8], kind: u32, bound: u32, parties: u32)
     requires { ⌜ (Given kind bound parties) × (8 ≤ length (now o)) ⌝ }
     ensures { λ _. ⌜ now (o .exit) ≡ headerBytes kind bound parties (builtUnits kind bound parties) ++ drop 8 (now (o .entry)) ⌝ }
 {
-    put_two(o, 0, rows::sheet_length(parties as u8) as u16);
-    o[2] = 1;
-    o[3] = kind as u8;
-    o[4] = bound as u8;
-    o[5] = parties as u8;
-    put_two(o, 6, built_units(kind, bound, parties));
+    put_two(o, LENGTH_AT, rows::sheet_length(parties as u8) as u16);
+    o[VERSION_AT] = VERSION;
+    o[KIND_AT] = kind as u8;
+    o[BOUND_AT] = bound as u8;
+    o[PARTIES_AT] = parties as u8;
+    put_two(o, UNITS_AT, built_units(kind, bound, parties));
 }
 
 // The whole sheet; the bytes past it stay.
@@ -202,7 +214,7 @@ pub(crate) fn put_sheet(out: &mut [u8], kind: u32, bound: u32, parties: u32)
     let mut k = 0;
     while k < count {
         let w = built_row(kind, bound, parties, p, k);
-        let at = 8 + 14 * k;
+        let at = HEADER_LENGTH + ROW_LENGTH * k;
         put_row(&mut out[at..], w);
         p = p.next();
         k += 1;

@@ -7,18 +7,24 @@ ghost use Rattle.steps.specs.Step.{isLive};
 ghost use Rattle.steps.specs.Calls.{toldOf, stopTold, stopped, countOf, liveTold};
 use answers::Refusal;
 use session::parts;
+use sheet::sizes::MOST_PARTIES;
+use sheet::sizes::MOST_SHEET;
+use sheet::sizes::MOST_UNITS;
+use sheet::sizes::PARTIES_AT;
+use state::CELLS;
 use state::Party;
+use state::Status;
 use state::wellformed;
 use steps::reply::Reply;
 use steps::reply::Turn;
 
 // A stop of party `party`, on the parts of a session: its status afterwards.
 pub fn stop_parts<'a>(
-    sheet: &'a [u8; 1898],
-    proposals: &'a [u32; 16],
-    marks: &'a [u8; 1024],
-    published: &'a [u8; 256],
-    parties: [Party; 16],
+    sheet: &'a [u8; MOST_SHEET],
+    proposals: &'a [u32; MOST_PARTIES],
+    marks: &'a [u8; MOST_UNITS],
+    published: &'a [u8; CELLS],
+    parties: [Party; MOST_PARTIES],
     party: u32,
 ) -> Turn
     ensures { λ r. ⌜ ofParts (now (sheet .entry)) (now (proposals .entry)) (now (marks .entry)) (now (published .entry)) (r .parties) ≡ stopped (ofParts (now (sheet .entry)) (now (proposals .entry)) (now (marks .entry)) (now (published .entry)) parties) party ⌝ }
@@ -40,7 +46,7 @@ pub fn stop_parts<'a>(
     }
 }
 
-fn count_live(parties: [Party; 16], n: u8) -> u8
+fn count_live(parties: [Party; MOST_PARTIES], n: u8) -> u8
     requires { ⌜ n ≤ 16 ⌝ }
     ensures { λ r. ⌜ r ≡ countOf (λ i. isLive (partyOf parties i)) (from 1 n) ⌝ }
 {
@@ -49,7 +55,7 @@ fn count_live(parties: [Party; 16], n: u8) -> u8
     while i <= n {
         let at = i as usize - 1;
         let p = parties[at];
-        if p.status < 2 {
+        if p.status < Status::DECIDED {
             count += 1;
         }
         i += 1;
@@ -59,16 +65,16 @@ fn count_live(parties: [Party; 16], n: u8) -> u8
 
 // How many parties are live, of the parts of a session.
 pub fn live_parts<'a>(
-    sheet: &'a [u8; 1898],
-    proposals: &'a [u32; 16],
-    marks: &'a [u8; 1024],
-    published: &'a [u8; 256],
-    parties: [Party; 16],
+    sheet: &'a [u8; MOST_SHEET],
+    proposals: &'a [u32; MOST_PARTIES],
+    marks: &'a [u8; MOST_UNITS],
+    published: &'a [u8; CELLS],
+    parties: [Party; MOST_PARTIES],
 ) -> Reply
     ensures { λ r. ⌜ toldOf r ≡ liveTold (ofParts (now (sheet .entry)) (now (proposals .entry)) (now (marks .entry)) (now (published .entry)) parties) ⌝ }
 {
     if !wellformed::parts_well_formed(sheet, proposals, marks, published, parties) {
         return Reply::Refused(Refusal::Session);
     }
-    Reply::Gave(count_live(parties, sheet[5]))
+    Reply::Gave(count_live(parties, sheet[PARTIES_AT]))
 }

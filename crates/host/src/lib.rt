@@ -14,8 +14,15 @@ use answers::Verdict;
 use image::proposals;
 use session::parts;
 use session::runs;
+use sheet::sizes::MOST_SHEET;
+use sheet::sizes::MOST_UNITS;
+use sheet::sizes::PARTIES_AT;
+use state::CELLS;
 use state::opening;
 use steps::reply::Reply;
+
+// The last index that an answer has room for; a schedule's byte there is bad.
+const LAST_INDEX: usize = 4294967295;
 
 // Whether a sheet is accepted.
 #[no_mangle]
@@ -47,10 +54,10 @@ pub extern "C" fn sepalsail_open(sheet: &[u8], proposals: &[u8], session: &mut [
     if let Verdict::Refused(r) = v {
         return words::refused(r);
     }
-    if session.len() != 3418 {
+    if session.len() != image::SESSION_LENGTH {
         return words::refused(Refusal::Output);
     }
-    let parties = opening::fresh_parties(sheet[5]);
+    let parties = opening::fresh_parties(sheet[PARTIES_AT]);
     image::write_fresh(sheet, numbers, parties, session);
     0
 }
@@ -61,12 +68,12 @@ pub extern "C" fn sepalsail_step(session: &mut [u8], party: u32) -> u64
     ensures { λ w. ⌜ w ≡ toldWord (hostStep (now (session .entry)) party) ⌝ }
     ensures { λ _. ⌜ now (session .exit) ≡ stepBytes (now (session .entry)) party ⌝ }
 {
-    if session.len() != 3418 {
+    if session.len() != image::SESSION_LENGTH {
         return words::refused(Refusal::Session);
     }
-    let mut sheet = [0u8; 1898];
-    let mut marks = [0u8; 1024];
-    let mut published = [0u8; 256];
+    let mut sheet = [0u8; MOST_SHEET];
+    let mut marks = [0u8; MOST_UNITS];
+    let mut published = [0u8; CELLS];
     image::read_parts(session, &mut sheet, &mut marks, &mut published);
     let proposals = image::proposals_of(session);
     let parties = image::parties_of(session);
@@ -93,12 +100,12 @@ pub extern "C" fn sepalsail_stop(session: &mut [u8], party: u32) -> u64
     ensures { λ w. ⌜ w ≡ toldWord (hostStop (now (session .entry)) party) ⌝ }
     ensures { λ _. ⌜ now (session .exit) ≡ stopBytes (now (session .entry)) party ⌝ }
 {
-    if session.len() != 3418 {
+    if session.len() != image::SESSION_LENGTH {
         return words::refused(Refusal::Session);
     }
-    let mut sheet = [0u8; 1898];
-    let mut marks = [0u8; 1024];
-    let mut published = [0u8; 256];
+    let mut sheet = [0u8; MOST_SHEET];
+    let mut marks = [0u8; MOST_UNITS];
+    let mut published = [0u8; CELLS];
     image::read_parts(session, &mut sheet, &mut marks, &mut published);
     let proposals = image::proposals_of(session);
     let parties = image::parties_of(session);
@@ -117,12 +124,12 @@ pub extern "C" fn sepalsail_stop(session: &mut [u8], party: u32) -> u64
 pub extern "C" fn sepalsail_live(session: &[u8]) -> u64
     ensures { λ w. ⌜ w ≡ toldWord (hostLive (now (session .entry))) ⌝ }
 {
-    if session.len() != 3418 {
+    if session.len() != image::SESSION_LENGTH {
         return words::refused(Refusal::Session);
     }
-    let mut sheet = [0u8; 1898];
-    let mut marks = [0u8; 1024];
-    let mut published = [0u8; 256];
+    let mut sheet = [0u8; MOST_SHEET];
+    let mut marks = [0u8; MOST_UNITS];
+    let mut published = [0u8; CELLS];
     image::read_parts(session, &mut sheet, &mut marks, &mut published);
     let proposals = image::proposals_of(session);
     let parties = image::parties_of(session);
@@ -135,9 +142,9 @@ fn run_long(sheet: &[u8], proposals: &[u32], schedule: &[u8]) -> u64
     ensures { λ w. ⌜ w ≡ answerWord (runAnswer (now (sheet .entry)) (now (proposals .entry)) (heard (now (schedule .entry))) 0) ⌝ }
 {
     let mut none = [0u8; 1];
-    let w = words::verdict(runs::run(sheet, proposals, &schedule[..4294967295], &mut none));
+    let w = words::verdict(runs::run(sheet, proposals, &schedule[..LAST_INDEX], &mut none));
     if w == 11 {
-        return words::refused(Refusal::Schedule(4294967295));
+        return words::refused(Refusal::Schedule(LAST_INDEX));
     }
     w
 }
@@ -156,7 +163,7 @@ pub extern "C" fn sepalsail_run(
     let given = proposals::proposals_from(proposals);
     let count = given.count;
     let numbers = given.numbers;
-    if 4294967295 < schedule.len() {
+    if LAST_INDEX < schedule.len() {
         return run_long(sheet, &numbers[..count], schedule);
     }
     words::verdict(runs::run(sheet, &numbers[..count], schedule, out))

@@ -1,8 +1,10 @@
 // A session in bytes: its parts are read out of them and written into them, where they are 3,418.
 mod parties;
 pub mod proposals;
+mod sizes;
 mod slices;
 
+pub use sizes::SESSION_LENGTH;
 ghost use mathlib.Core.Path.{_≡_};
 ghost use mathlib.Core.List.{_++_};
 ghost use mathlib.Core.Bool.{cond, _&&_};
@@ -11,113 +13,137 @@ ghost use lib.ListN.{length, take, replicate};
 ghost use lib.Dec.{eqb, leb};
 ghost use Rattle.state.specs.Session.{noParty, filled, ofParts};
 ghost use Rattle.image.specs.Image.{partiesBytes, sessionBytes, sessionOf};
+use crate::sizes::ENTRIES_AT;
+use crate::sizes::MARKS_AT;
+use crate::sizes::PROPOSALS_AT;
+use crate::sizes::PUBLISHED_AT;
+use crate::sizes::SHARED_LENGTH;
+use sheet::sizes::MOST_PARTIES;
+use sheet::sizes::MOST_SHEET;
+use sheet::sizes::MOST_UNITS;
+use state::CELLS;
 use state::Party;
 
 fn copy_parts(
     bytes: &[u8],
-    sheet: &mut [u8; 1898],
-    marks: &mut [u8; 1024],
-    published: &mut [u8; 256],
+    sheet: &mut [u8; MOST_SHEET],
+    marks: &mut [u8; MOST_UNITS],
+    published: &mut [u8; CELLS],
 )
     requires { ⌜ length (now bytes) ≡ 3418 ⌝ }
     ensures { λ _. ⌜ now (sheet .exit) ≡ sessionOf (now (bytes .entry)) .sheet ⌝ }
     ensures { λ _. ⌜ now (marks .exit) ≡ sessionOf (now (bytes .entry)) .marks ⌝ }
     ensures { λ _. ⌜ now (published .exit) ≡ sessionOf (now (bytes .entry)) .published ⌝ }
 {
-    slices::copy(bytes, 1898, sheet, 0);
-    slices::copy(&bytes[1962..], 1024, marks, 0);
-    slices::copy(&bytes[2986..], 256, published, 0);
+    slices::copy(bytes, MOST_SHEET, sheet, 0);
+    slices::copy(&bytes[MARKS_AT..], MOST_UNITS, marks, 0);
+    slices::copy(&bytes[PUBLISHED_AT..], CELLS, published, 0);
 }
 
 // The sheet, the marks and the published candidates that the bytes say.
 pub fn read_parts(
     bytes: &[u8],
-    sheet: &mut [u8; 1898],
-    marks: &mut [u8; 1024],
-    published: &mut [u8; 256],
+    sheet: &mut [u8; MOST_SHEET],
+    marks: &mut [u8; MOST_UNITS],
+    published: &mut [u8; CELLS],
 )
     ensures { λ _. ⌜ now (sheet .exit) ≡ cond (eqb (length (now (bytes .entry))) 3418) (sessionOf (now (bytes .entry)) .sheet) (now (sheet .entry)) ⌝ }
     ensures { λ _. ⌜ now (marks .exit) ≡ cond (eqb (length (now (bytes .entry))) 3418) (sessionOf (now (bytes .entry)) .marks) (now (marks .entry)) ⌝ }
     ensures { λ _. ⌜ now (published .exit) ≡ cond (eqb (length (now (bytes .entry))) 3418) (sessionOf (now (bytes .entry)) .published) (now (published .entry)) ⌝ }
 {
-    if bytes.len() == 3418 {
+    if bytes.len() == SESSION_LENGTH {
         copy_parts(bytes, sheet, marks, published);
     }
 }
 
 // The proposals that the bytes say.
-pub fn proposals_of(bytes: &[u8]) -> [u32; 16]
+pub fn proposals_of(bytes: &[u8]) -> [u32; MOST_PARTIES]
     ensures { λ r. ⌜ r ≡ cond (eqb (length (now (bytes .entry))) 3418) (sessionOf (now (bytes .entry)) .proposals) (replicate 16 0) ⌝ }
 {
-    if bytes.len() != 3418 {
-        return [0; 16];
+    if bytes.len() != SESSION_LENGTH {
+        return [0; MOST_PARTIES];
     }
-    proposals::numbers_from(&bytes[1898..], 16)
+    proposals::numbers_from(&bytes[PROPOSALS_AT..], MOST_PARTIES)
 }
 
 // The parties that the bytes say.
-pub fn parties_of(bytes: &[u8]) -> [Party; 16]
+pub fn parties_of(bytes: &[u8]) -> [Party; MOST_PARTIES]
     ensures { λ r. ⌜ r ≡ cond (eqb (length (now (bytes .entry))) 3418) (sessionOf (now (bytes .entry)) .parties) (replicate 16 noParty) ⌝ }
 {
-    if bytes.len() != 3418 {
+    if bytes.len() != SESSION_LENGTH {
         let none = Party::fresh(0);
-        return [none; 16];
+        return [none; MOST_PARTIES];
     }
-    parties::parties_from(&bytes[3242..])
+    parties::parties_from(&bytes[ENTRIES_AT..])
 }
 
-fn put_acted(marks: &[u8; 1024], published: &[u8; 256], parties: [Party; 16], bytes: &mut [u8])
+fn put_acted(
+    marks: &[u8; MOST_UNITS],
+    published: &[u8; CELLS],
+    parties: [Party; MOST_PARTIES],
+    bytes: &mut [u8],
+)
     requires { ⌜ length (now bytes) ≡ 3418 ⌝ }
     ensures { λ _. ⌜ now (bytes .exit) ≡ take 1962 (now (bytes .entry)) ++ now (marks .entry) ++ now (published .entry) ++ partiesBytes parties ⌝ }
 {
-    slices::copy(marks, 1024, bytes, 1962);
-    slices::copy(published, 256, bytes, 2986);
-    parties::put_parties(&mut bytes[3242..], parties);
+    slices::copy(marks, MOST_UNITS, bytes, MARKS_AT);
+    slices::copy(published, CELLS, bytes, PUBLISHED_AT);
+    parties::put_parties(&mut bytes[ENTRIES_AT..], parties);
 }
 
 // What an act may change, over its bytes.
 pub fn write_acted(
-    marks: &[u8; 1024],
-    published: &[u8; 256],
-    parties: [Party; 16],
+    marks: &[u8; MOST_UNITS],
+    published: &[u8; CELLS],
+    parties: [Party; MOST_PARTIES],
     bytes: &mut [u8],
 )
     ensures { λ _. ⌜ now (bytes .exit) ≡ cond (eqb (length (now (bytes .entry))) 3418) (take 1962 (now (bytes .entry)) ++ now (marks .entry) ++ now (published .entry) ++ partiesBytes parties) (now (bytes .entry)) ⌝ }
 {
-    if bytes.len() == 3418 {
+    if bytes.len() == SESSION_LENGTH {
         put_acted(marks, published, parties, bytes);
     }
 }
 
 // The parties, over their bytes.
-pub fn write_parties(parties: [Party; 16], bytes: &mut [u8])
+pub fn write_parties(parties: [Party; MOST_PARTIES], bytes: &mut [u8])
     ensures { λ _. ⌜ now (bytes .exit) ≡ cond (eqb (length (now (bytes .entry))) 3418) (take 3242 (now (bytes .entry)) ++ partiesBytes parties) (now (bytes .entry)) ⌝ }
 {
-    if bytes.len() == 3418 {
-        parties::put_parties(&mut bytes[3242..], parties);
+    if bytes.len() == SESSION_LENGTH {
+        parties::put_parties(&mut bytes[ENTRIES_AT..], parties);
     }
 }
 
-fn put_fresh(sheet: &[u8], proposals: [u32; 16], parties: [Party; 16], bytes: &mut [u8])
+fn put_fresh(
+    sheet: &[u8],
+    proposals: [u32; MOST_PARTIES],
+    parties: [Party; MOST_PARTIES],
+    bytes: &mut [u8],
+)
     requires { ⌜ (length (now sheet) ≤ 1898) × (length (now bytes) ≡ 3418) ⌝ }
     ensures { λ _. ⌜ now (bytes .exit) ≡ sessionBytes (ofParts (filled 1898 (now (sheet .entry))) proposals (replicate 1024 0) (replicate 256 0) parties) ⌝ }
 {
     let n = sheet.len();
     slices::copy(sheet, n, bytes, 0);
-    slices::put_zeros(bytes, n, 1898 - n);
-    proposals::put_proposals(&mut bytes[1898..], proposals);
-    slices::put_zeros(bytes, 1962, 1280);
-    parties::put_parties(&mut bytes[3242..], parties);
+    slices::put_zeros(bytes, n, MOST_SHEET - n);
+    proposals::put_proposals(&mut bytes[PROPOSALS_AT..], proposals);
+    slices::put_zeros(bytes, MARKS_AT, SHARED_LENGTH);
+    parties::put_parties(&mut bytes[ENTRIES_AT..], parties);
 }
 
 // A session on which no party has acted: the sheet, and zeros to the end of its part, the proposals, no mark, no published candidate, the parties.
-pub fn write_fresh(sheet: &[u8], proposals: [u32; 16], parties: [Party; 16], bytes: &mut [u8])
+pub fn write_fresh(
+    sheet: &[u8],
+    proposals: [u32; MOST_PARTIES],
+    parties: [Party; MOST_PARTIES],
+    bytes: &mut [u8],
+)
     ensures { λ _. ⌜ now (bytes .exit) ≡ cond (eqb (length (now (bytes .entry))) 3418 && leb (length (now (sheet .entry))) 1898) (sessionBytes (ofParts (filled 1898 (now (sheet .entry))) proposals (replicate 1024 0) (replicate 256 0) parties)) (now (bytes .entry)) ⌝ }
 {
-    if bytes.len() != 3418 {
+    if bytes.len() != SESSION_LENGTH {
         return;
     }
-    if sheet.len() <= 1898 {
+    if sheet.len() <= MOST_SHEET {
         put_fresh(sheet, proposals, parties, bytes);
     }
 }

@@ -4,7 +4,9 @@ ghost use mathlib.Core.List.{_++_};
 ghost use Prim.Native.Nat.{_≤_};
 ghost use lib.ListN.{length, drop};
 ghost use Rattle.image.specs.Image.{partyImage, partiesBytes, partyFrom, partiesFrom};
+use crate::sizes::ENTRY_LENGTH;
 use sheet::bytes;
+use sheet::sizes::MOST_PARTIES;
 use state::Party;
 
 // The party of 11 bytes.
@@ -41,28 +43,28 @@ fn put_party(o: &mut [u8], p: Party)
     o[10] = (p.decision % 256) as u8;
 }
 
-pub(crate) fn parties_from(s: &[u8]) -> [Party; 16]
+pub(crate) fn parties_from(s: &[u8]) -> [Party; MOST_PARTIES]
     requires { ⌜ 176 ≤ length (now s) ⌝ }
     ensures { λ r. ⌜ r ≡ partiesFrom (now (s .entry)) ⌝ }
 {
     let none = Party::fresh(0);
-    let mut parties = [none; 16];
+    let mut parties = [none; MOST_PARTIES];
     let mut j = 0;
-    while j < 16 {
-        let at = 11 * j;
+    while j < MOST_PARTIES {
+        let at = ENTRY_LENGTH * j;
         parties[j] = party_from(&s[at..]);
         j += 1;
     }
     parties
 }
 
-pub(crate) fn put_parties(o: &mut [u8], parties: [Party; 16])
+pub(crate) fn put_parties(o: &mut [u8], parties: [Party; MOST_PARTIES])
     requires { ⌜ 176 ≤ length (now o) ⌝ }
     ensures { λ _. ⌜ now (o .exit) ≡ partiesBytes parties ++ drop 176 (now (o .entry)) ⌝ }
 {
     let mut j = 0;
-    while j < 16 {
-        let at = 11 * j;
+    while j < MOST_PARTIES {
+        let at = ENTRY_LENGTH * j;
         put_party(&mut o[at..], parties[j]);
         j += 1;
     }

@@ -7,6 +7,7 @@ ghost use Rattle.sheet.specs.Bytes.{num};
 ghost use Rattle.record.specs.Record.{recordLength};
 ghost use Rattle.lister.specs.Text.{newline, space, statusWord, decimal, countsLine, decisionWord, partyLine};
 ghost use Rattle.lister.specs.Text.{recordLine, listing, refusedText, Put};
+use state::Status;
 
 // Puts a word at a place; answers the place behind it.
 fn put_word(out: &mut [u8], at: usize, word: &[u8]) -> usize
@@ -51,9 +52,9 @@ fn put_status(out: &mut [u8], at: usize, status: u8) -> usize
     ensures { λ r. ⌜ Put (now (out .entry)) at (statusWord status ++ space) (now (out .exit)) r ⌝ }
 {
     match status {
-        0 => put_word(out, at, b"idle "),
-        1 => put_word(out, at, b"running "),
-        2 => put_word(out, at, b"decided "),
+        Status::IDLE => put_word(out, at, b"idle "),
+        Status::RUNNING => put_word(out, at, b"running "),
+        Status::DECIDED => put_word(out, at, b"decided "),
         _ => put_word(out, at, b"stopped "),
     }
 }
@@ -63,7 +64,7 @@ fn put_decision(out: &mut [u8], at: usize, status: u8, decision: usize) -> usize
     requires { ⌜ at + length (decisionWord status decision ++ newline) ≤ length (now out) ⌝ }
     ensures { λ r. ⌜ Put (now (out .entry)) at (decisionWord status decision ++ newline) (now (out .exit)) r ⌝ }
 {
-    if status == 2 {
+    if status == Status::DECIDED {
         put_number(out, at, decision, b'\n')
     } else {
         put_word(out, at, b"-\n")
@@ -119,10 +120,10 @@ fn put_party(out: &mut [u8], at: usize, bytes: &[u8], k: usize) -> usize
     requires { ⌜ (4 + 7 * (k + 1) ≤ length (now bytes)) × (at + length (recordLine (now bytes) k) ≤ length (now out)) ⌝ }
     ensures { λ r. ⌜ Put (now (out .entry)) at (recordLine (now (bytes .entry)) k) (now (out .exit)) r ⌝ }
 {
-    let place = 4 + 7 * k;
+    let place = record::HEAD_LENGTH + record::PARTY_LENGTH * k;
     let status = bytes[place];
-    let steps = number(bytes, place + 1, 2);
-    let decision = number(bytes, place + 3, 4);
+    let steps = number(bytes, place + record::STEPS_AT, 2);
+    let decision = number(bytes, place + record::DECISION_AT, 4);
     put_line(out, at, k + 1, status, steps, decision)
 }
 
@@ -132,7 +133,7 @@ pub(crate) fn put_listing(out: &mut [u8], bytes: &[u8], entries: usize) -> usize
     ensures { λ r. ⌜ r ≡ length (listing (now (bytes .entry)) entries) ⌝ }
     ensures { λ _. ⌜ now (out .exit) ≡ listing (now (bytes .entry)) entries ++ drop (length (listing (now (bytes .entry)) entries)) (now (out .entry)) ⌝ }
 {
-    let n = bytes[3] as usize;
+    let n = bytes[record::PARTIES_AT] as usize;
     let mut at = put_counts(out, b"parties ", n, b" entries ", entries);
     let mut k = 0;
     while k < n {

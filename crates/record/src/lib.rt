@@ -6,18 +6,44 @@ ghost use Prim.Native.Nat.{_≤_};
 ghost use lib.Dec.{leb};
 ghost use lib.ListN.{length, drop};
 ghost use Rattle.record.specs.Record.{partyRecord, recordLength, recordHead, recordBytes};
+use sheet::sizes::MOST_PARTIES;
 use state::Party;
+
+// ---- how long a record's parts are, and where its fields stand
+
+pub const HEAD_LENGTH: usize = 4;
+
+const VERSION_AT: usize = 2;
+
+pub const PARTIES_AT: usize = 3;
+
+// The one version of a record.
+const VERSION: u8 = 1;
+
+pub const PARTY_LENGTH: usize = 7;
+
+// From the first of a party's bytes, its status.
+pub const STEPS_AT: usize = 1;
+
+pub const DECISION_AT: usize = 3;
+
+// The two lengths and the last party, as wide as the numbers beside them.
+const HEAD: u16 = HEAD_LENGTH as u16;
+
+const EACH: u16 = PARTY_LENGTH as u16;
+
+const LAST_PARTY: u8 = MOST_PARTIES as u8;
 
 // The record's first four bytes.
 fn put_head(o: &mut [u8], n: u8)
     requires { ⌜ (n ≤ 16) × (4 ≤ length (now o)) ⌝ }
     ensures { λ _. ⌜ now (o .exit) ≡ recordHead n ++ drop 4 (now (o .entry)) ⌝ }
 {
-    let len = 4 + 7 * (n as u16);
+    let len = HEAD + EACH * (n as u16);
     o[0] = (len / 256 % 256) as u8;
     o[1] = (len % 256) as u8;
-    o[2] = 1;
-    o[3] = n;
+    o[VERSION_AT] = VERSION;
+    o[PARTIES_AT] = n;
 }
 
 // A party's seven bytes, at the start of what is lent.
@@ -37,14 +63,14 @@ fn put_party(o: &mut [u8], p: Party)
 }
 
 // The record of the first n parties; the bytes past it stay.
-fn put_whole(out: &mut [u8], n: u8, parties: [Party; 16])
+fn put_whole(out: &mut [u8], n: u8, parties: [Party; MOST_PARTIES])
     requires { ⌜ (n ≤ 16) × (recordLength n ≤ length (now out)) ⌝ }
     ensures { λ _. ⌜ now (out .exit) ≡ recordBytes n parties ++ drop (recordLength n) (now (out .entry)) ⌝ }
 {
     put_head(out, n);
     let mut p: usize = 0;
     while p < n as usize {
-        let at = 4 + 7 * p;
+        let at = HEAD_LENGTH + PARTY_LENGTH * p;
         let party = parties[p];
         put_party(&mut out[at..], party);
         p += 1;
@@ -52,12 +78,12 @@ fn put_whole(out: &mut [u8], n: u8, parties: [Party; 16])
 }
 
 // Writes the record of the first n parties, where n is at most 16 and it fits; the bytes past it stay, and else all stay.
-pub fn put_record(out: &mut [u8], n: u8, parties: [Party; 16])
+pub fn put_record(out: &mut [u8], n: u8, parties: [Party; MOST_PARTIES])
     ensures { λ _. ⌜ now (out .exit) ≡ cond (leb n 16 && leb (recordLength n) (length (now (out .entry))))
         (recordBytes n parties ++ drop (recordLength n) (now (out .entry)))
         (now (out .entry)) ⌝ }
 {
-    if n <= 16 && 4 + 7 * (n as usize) <= out.len() {
+    if n <= LAST_PARTY && HEAD_LENGTH + PARTY_LENGTH * (n as usize) <= out.len() {
         put_whole(out, n, parties);
     }
 }

@@ -8,15 +8,18 @@ ghost use Rattle.answers.specs.Answers.{answerOf, done};
 ghost use Rattle.rules.specs.Check.{unlessUnfit, checkAnswer};
 use answers::Refusal;
 use answers::Verdict;
+use sheet::sizes::HEADER_LENGTH;
+use sheet::sizes::VERSION;
+use sheet::sizes::VERSION_AT;
 
 // Whether a sheet keeps all rules but the writer rule: the first that fails, in document 01's order.
 fn fits(sheet: &[u8]) -> Verdict
     ensures { λ r. ⌜ answerOf r ≡ unlessUnfit (now (sheet .entry)) done ⌝ }
 {
-    if sheet.len() < 8 {
+    if sheet.len() < HEADER_LENGTH {
         return Verdict::Refused(Refusal::Short);
     }
-    if sheet[2] != 1 {
+    if sheet[VERSION_AT] != VERSION {
         return Verdict::Refused(Refusal::Version);
     }
     if !shape::header_ok(sheet) {

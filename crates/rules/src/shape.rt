@@ -10,6 +10,21 @@ use sheet::rows;
 use sheet::rows::Row;
 use sheet::rows::Slot;
 use sheet::sets;
+use sheet::sizes::BOUND_AT;
+use sheet::sizes::KIND_AT;
+use sheet::sizes::LENGTH_AT;
+use sheet::sizes::LENGTH_LOW_AT;
+use sheet::sizes::MOST_BOUND;
+use sheet::sizes::MOST_PARTIES;
+use sheet::sizes::MOST_UNITS;
+use sheet::sizes::PARTIES_AT;
+use sheet::sizes::UNITS_AT;
+use sheet::sizes::UNITS_LOW_AT;
+
+// The most parties and units, as wide as the numbers that are tested.
+const PARTIES: u32 = MOST_PARTIES as u32;
+
+const UNITS: u32 = MOST_UNITS as u32;
 
 fn is_within(lo: u32, hi: u32, x: u32) -> bool
     ensures { λ r. ⌜ r ≡ within lo hi x ⌝ }
@@ -24,28 +39,28 @@ pub fn numbers_ok(kind: u32, bound: u32, parties: u32) -> bool
     if !is_within(1, 2, kind) {
         return false;
     }
-    if !is_within(1, 64, bound) {
+    if !is_within(1, MOST_BOUND, bound) {
         return false;
     }
-    is_within(1, 16, parties)
+    is_within(1, PARTIES, parties)
 }
 
 pub(crate) fn header_ok(s: &[u8]) -> bool
     requires { ⌜ Rules1 (now s) ⌝ }
     ensures { λ r. ⌜ r ≡ headerOk (layoutOf (now (s .entry))) ⌝ }
 {
-    if !numbers_ok(s[3] as u32, s[4] as u32, s[5] as u32) {
+    if !numbers_ok(s[KIND_AT] as u32, s[BOUND_AT] as u32, s[PARTIES_AT] as u32) {
         return false;
     }
-    is_within(1, 1024, bytes::two(s[6], s[7]) as u32)
+    is_within(1, UNITS, bytes::two(s[UNITS_AT], s[UNITS_LOW_AT]) as u32)
 }
 
 pub(crate) fn length_ok(s: &[u8]) -> bool
     requires { ⌜ Rules1 (now s) ⌝ }
     ensures { λ r. ⌜ r ≡ lengthOk (now (s .entry)) ⌝ }
 {
-    let whole = rows::sheet_length(s[5]);
-    if bytes::two(s[0], s[1]) as usize != whole {
+    let whole = rows::sheet_length(s[PARTIES_AT]);
+    if bytes::two(s[LENGTH_AT], s[LENGTH_LOW_AT]) as usize != whole {
         return false;
     }
     s.len() == whole
@@ -78,10 +93,10 @@ pub(crate) fn first_bad_row(s: &[u8]) -> usize
     requires { ⌜ Rules4 (now s) ⌝ }
     ensures { λ r. ⌜ r ≡ firstBad (rowRule (layoutOf (now (s .entry)))) 1 (slots (partiesOf (now (s .entry)))) ⌝ }
 {
-    let kind = s[3];
-    let bound = s[4];
-    let count = rows::row_count(s[5]);
-    let units = bytes::two(s[6], s[7]);
+    let kind = s[KIND_AT];
+    let bound = s[BOUND_AT];
+    let count = rows::row_count(s[PARTIES_AT]);
+    let units = bytes::two(s[UNITS_AT], s[UNITS_LOW_AT]);
     let mut p = Slot::first();
     let mut k = 0;
     while k < count {

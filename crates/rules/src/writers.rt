@@ -15,6 +15,7 @@ use sheet::rows;
 use sheet::rows::Row;
 use sheet::rows::Slot;
 use sheet::sets;
+use sheet::sizes::PARTIES_AT;
 
 // What the rows so far say of where rounds lie: rows of this round must start at or past `limit`, and all rows so far end before `end`.
 pub(crate) struct Edge {
@@ -60,7 +61,7 @@ fn ascends(s: &[u8]) -> bool
     requires { ⌜ Rules4 (now s) ⌝ }
     ensures { λ r. ⌜ r ≡ ascending (layoutOf (now (s .entry))) ⌝ }
 {
-    let count = rows::row_count(s[5]);
+    let count = rows::row_count(s[PARTIES_AT]);
     let mut e = Edge {
         ok: true,
         limit: 0,
@@ -134,7 +135,7 @@ fn clear_of_rounds(s: &[u8], round: usize, w: Row) -> bool
     requires { ⌜ Rules4 (now s) ⌝ }
     ensures { λ r. ⌜ r ≡ clearOfRounds (layoutOf (now (s .entry))) round w ⌝ }
 {
-    let count = rows::row_count(s[5]);
+    let count = rows::row_count(s[PARTIES_AT]);
     let mut p = Slot::first();
     let mut k = 0;
     while k < count {
@@ -173,7 +174,7 @@ fn first_clash(s: &[u8], ascending: bool) -> usize
     requires { ⌜ Rules4 (now s) ⌝ }
     ensures { λ r. ⌜ r ≡ firstBad (quickRule (layoutOf (now (s .entry))) ascending) 1 (slots (partiesOf (now (s .entry)))) ⌝ }
 {
-    let count = rows::row_count(s[5]);
+    let count = rows::row_count(s[PARTIES_AT]);
     let mut p = Slot::first();
     let mut k = 0;
     while k < count {

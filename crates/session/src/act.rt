@@ -10,8 +10,13 @@ ghost use Rattle.state.specs.Session.{cell};
 ghost use Rattle.steps.specs.Step.{goes, won, nextK, lowersWin, counted, markAt, announced, afterPublish, afterWrite, afterTop, afterOwn, afterPair, afterFetch, decided, placeOf, partyActed, marksAfter, publishedAfter, stamped, written};
 ghost use Rattle.steps.specs.Ready.{Ready, ReadyAt};
 use sheet::rows;
+use sheet::sizes::MOST_PARTIES;
+use sheet::sizes::MOST_UNITS;
+use state::CELLS;
 use state::Mark;
 use state::Party;
+use state::Place;
+use state::Status;
 
 // A party runs on, one own step later.
 fn go_to(p: Party, place: u8, round: u8, k: u8, candidate: u8) -> Party
@@ -19,7 +24,7 @@ fn go_to(p: Party, place: u8, round: u8, k: u8, candidate: u8) -> Party
     ensures { λ r. ⌜ r ≡ counted (goes p place round k candidate) ⌝ }
 {
     Party {
-        status: 1,
+        status: Status::RUNNING,
         place,
         round,
         k,
@@ -35,9 +40,9 @@ fn win(n: u8, p: Party, round: u8, candidate: u8) -> Party
     ensures { λ r. ⌜ r ≡ counted (won n p round candidate) ⌝ }
 {
     if round < n {
-        go_to(p, 1, round + 1, 0, candidate)
+        go_to(p, Place::PUBLISH, round + 1, 0, candidate)
     } else {
-        go_to(p, 7, 0, 0, candidate)
+        go_to(p, Place::DECIDE, 0, 0, candidate)
     }
 }
 
@@ -49,7 +54,7 @@ fn next_k(n: u8, p: Party) -> Party
     let k = p.k + 1;
     let round = p.round;
     if k < round {
-        go_to(p, 4, round, k, p.candidate)
+        go_to(p, Place::READ_OWN, round, k, p.candidate)
     } else {
         win(n, p, round, round)
     }
@@ -64,7 +69,7 @@ fn lowers_win(n: u8, i: u8, p: Party) -> Party
     if i < round {
         win(n, p, round, p.candidate)
     } else {
-        go_to(p, 6, round, p.k, p.candidate)
+        go_to(p, Place::FETCH, round, p.k, p.candidate)
     }
 }
 
@@ -73,25 +78,25 @@ fn announce(n: u8, i: u8, p: Party) -> Party
     ensures { λ r. ⌜ r ≡ counted (announced n i p) ⌝ }
 {
     if n == 1 {
-        return go_to(p, 7, 0, 0, p.candidate);
+        return go_to(p, Place::DECIDE, 0, 0, p.candidate);
     }
     if i == 1 {
-        return go_to(p, 1, 2, 0, p.candidate);
+        return go_to(p, Place::PUBLISH, 2, 0, p.candidate);
     }
-    go_to(p, 2, i, 0, p.candidate)
+    go_to(p, Place::WRITE, i, 0, p.candidate)
 }
 
-fn publish(published: &mut [u8; 256], i: u8, p: Party) -> Party
+fn publish(published: &mut [u8; CELLS], i: u8, p: Party) -> Party
     requires { ⌜ (p .steps ≤ 1000) × (p .round ≤ 16) × (i ≤ 16) ⌝ }
     ensures { λ r. ⌜ (r ≡ counted (afterPublish p)) × (now (published .exit) ≡ set (now (published .entry)) (cell (p .round) i) (p .candidate)) ⌝ }
 {
     let at = state::cell_of(p.round, i);
     published[at] = p.candidate;
-    go_to(p, 2, p.round, 0, p.candidate)
+    go_to(p, Place::WRITE, p.round, 0, p.candidate)
 }
 
 // One mark in all units of a set.
-fn mark_set(marks: &mut [u8; 1024], start: usize, mask: u64, mark: u8)
+fn mark_set(marks: &mut [u8; MOST_UNITS], start: usize, mask: u64, mark: u8)
     requires { ⌜ (start ≤ 65535) × ((u : ℕ) → T (inSet start mask u) → u < 1024) ⌝ }
     ensures { λ _. ⌜ now (marks .exit) ≡ stamped (inSet start mask) mark 0 (now (marks .entry)) ⌝ }
 {
@@ -115,7 +120,7 @@ fn mark_of(i: u8, round: u8) -> u8
     }
 }
 
-fn write(sheet: &[u8], marks: &mut [u8; 1024], i: u8, p: Party) -> Party
+fn write(sheet: &[u8], marks: &mut [u8; MOST_UNITS], i: u8, p: Party) -> Party
     requires { ⌜ ReadyAt (now sheet) i p ⌝ }
     ensures { λ r. ⌜ (r ≡ counted (afterWrite i p)) × (now (marks .exit) ≡ written (layoutOf (now (sheet .entry))) i p (now (marks .entry))) ⌝ }
 {
@@ -123,13 +128,13 @@ fn write(sheet: &[u8], marks: &mut [u8; 1024], i: u8, p: Party) -> Party
     let w = rows::row_of(sheet, round as usize, i as usize);
     mark_set(marks, w.start as usize, w.mask, mark_of(i, round));
     if i == round {
-        go_to(p, 4, round, 1, p.candidate)
+        go_to(p, Place::READ_OWN, round, 1, p.candidate)
     } else {
-        go_to(p, 3, round, 0, p.candidate)
+        go_to(p, Place::READ_TOP, round, 0, p.candidate)
     }
 }
 
-fn read_top(sheet: &[u8], marks: &[u8; 1024], n: u8, i: u8, p: Party) -> Party
+fn read_top(sheet: &[u8], marks: &[u8; MOST_UNITS], n: u8, i: u8, p: Party) -> Party
     requires { ⌜ (ReadyAt (now sheet) i p) × (n ≤ 16) ⌝ }
     ensures { λ r. ⌜ r ≡ counted (afterTop n i (markAt (now (marks .entry)) (layoutOf (now (sheet .entry)) .row (slot (p .round) (p .round)) .own)) p) ⌝ }
 {
@@ -139,11 +144,11 @@ fn read_top(sheet: &[u8], marks: &[u8; 1024], n: u8, i: u8, p: Party) -> Party
     if marks[top] == Mark::EMPTY {
         lowers_win(n, i, p)
     } else {
-        go_to(p, 4, round, 1, p.candidate)
+        go_to(p, Place::READ_OWN, round, 1, p.candidate)
     }
 }
 
-fn read_own(sheet: &[u8], marks: &[u8; 1024], n: u8, p: Party) -> Party
+fn read_own(sheet: &[u8], marks: &[u8; MOST_UNITS], n: u8, p: Party) -> Party
     requires { ⌜ (ReadyAt (now sheet) (p .k) p) × (n ≤ 16) ⌝ }
     ensures { λ r. ⌜ r ≡ counted (afterOwn n (markAt (now (marks .entry)) (layoutOf (now (sheet .entry)) .row (slot (p .round) (p .k)) .own)) p) ⌝ }
 {
@@ -154,11 +159,11 @@ fn read_own(sheet: &[u8], marks: &[u8; 1024], n: u8, p: Party) -> Party
     if marks[own] == Mark::EMPTY {
         next_k(n, p)
     } else {
-        go_to(p, 5, round, k, p.candidate)
+        go_to(p, Place::READ_PAIR, round, k, p.candidate)
     }
 }
 
-fn read_pair(sheet: &[u8], marks: &[u8; 1024], n: u8, i: u8, p: Party) -> Party
+fn read_pair(sheet: &[u8], marks: &[u8; MOST_UNITS], n: u8, i: u8, p: Party) -> Party
     requires { ⌜ (ReadyAt (now sheet) (p .k) p) × (p .k < p .round) × (n ≤ 16) ⌝ }
     ensures { λ r. ⌜ r ≡ counted (afterPair n i (markAt (now (marks .entry)) (layoutOf (now (sheet .entry)) .row (slot (p .round) (p .k)) .pair)) p) ⌝ }
 {
@@ -171,7 +176,7 @@ fn read_pair(sheet: &[u8], marks: &[u8; 1024], n: u8, i: u8, p: Party) -> Party
     }
 }
 
-fn fetch(published: &[u8; 256], n: u8, p: Party) -> Party
+fn fetch(published: &[u8; CELLS], n: u8, p: Party) -> Party
     requires { ⌜ (p .steps ≤ 1000) × (n ≤ 16) × (p .round ≤ 16) × (p .k ≤ 16) ⌝ }
     ensures { λ r. ⌜ r ≡ counted (afterFetch n (getD (now (published .entry)) (cell (p .round) (p .k)) 0) p) ⌝ }
 {
@@ -179,14 +184,14 @@ fn fetch(published: &[u8; 256], n: u8, p: Party) -> Party
     win(n, p, p.round, published[at])
 }
 
-fn decide(proposals: &[u32; 16], p: Party) -> Party
+fn decide(proposals: &[u32; MOST_PARTIES], p: Party) -> Party
     requires { ⌜ (p .steps ≤ 1000) × (1 ≤ p .candidate) × (p .candidate ≤ 16) ⌝ }
     ensures { λ r. ⌜ r ≡ counted (decided (getD (now (proposals .entry)) (p .candidate - 1) 0) p) ⌝ }
 {
     let at = p.candidate as usize - 1;
     Party {
-        status: 2,
-        place: 8,
+        status: Status::DECIDED,
+        place: Place::DONE,
         round: 0,
         k: 0,
         candidate: p.candidate,
@@ -198,9 +203,9 @@ fn decide(proposals: &[u32; 16], p: Party) -> Party
 // The act of party i, which is p and live, by its place.
 pub(crate) fn act(
     sheet: &[u8],
-    proposals: &[u32; 16],
-    marks: &mut [u8; 1024],
-    published: &mut [u8; 256],
+    proposals: &[u32; MOST_PARTIES],
+    marks: &mut [u8; MOST_UNITS],
+    published: &mut [u8; CELLS],
     p: Party,
     i: u8,
     n: u8,
@@ -210,14 +215,14 @@ pub(crate) fn act(
 {
     let place = p.place;
     match place {
-        0 => announce(n, i, p),
-        1 => publish(published, i, p),
-        2 => write(sheet, marks, i, p),
-        3 => read_top(sheet, marks, n, i, p),
-        4 => read_own(sheet, marks, n, p),
-        5 => read_pair(sheet, marks, n, i, p),
-        6 => fetch(published, n, p),
-        7 => decide(proposals, p),
+        Place::ANNOUNCE => announce(n, i, p),
+        Place::PUBLISH => publish(published, i, p),
+        Place::WRITE => write(sheet, marks, i, p),
+        Place::READ_TOP => read_top(sheet, marks, n, i, p),
+        Place::READ_OWN => read_own(sheet, marks, n, p),
+        Place::READ_PAIR => read_pair(sheet, marks, n, i, p),
+        Place::FETCH => fetch(published, n, p),
+        Place::DECIDE => decide(proposals, p),
         _ => p,
     }
 }

@@ -12,7 +12,14 @@ ghost use Rattle.steps.specs.Ready.{Ready};
 ghost use Rattle.steps.specs.Calls.{toldOf, unlessRefused, stepTold, stepped};
 use crate::act;
 use answers::Refusal;
+use sheet::sizes::MOST_PARTIES;
+use sheet::sizes::MOST_SHEET;
+use sheet::sizes::MOST_UNITS;
+use sheet::sizes::PARTIES_AT;
+use state::CELLS;
 use state::Party;
+use state::Place;
+use state::Status;
 use state::wellformed;
 use steps::reply::Reply;
 use steps::reply::Turn;
@@ -25,11 +32,11 @@ fn is_party(n: u8, party: u32) -> bool
 
 // Why a call for a party is refused: 9, then 10. Where it is not, the value 0.
 pub fn asked<'a>(
-    sheet: &'a [u8; 1898],
-    proposals: &'a [u32; 16],
-    marks: &'a [u8; 1024],
-    published: &'a [u8; 256],
-    parties: [Party; 16],
+    sheet: &'a [u8; MOST_SHEET],
+    proposals: &'a [u32; MOST_PARTIES],
+    marks: &'a [u8; MOST_UNITS],
+    published: &'a [u8; CELLS],
+    parties: [Party; MOST_PARTIES],
     party: u32,
 ) -> Reply
     ensures { λ r. ⌜ toldOf r ≡ unlessRefused (ofParts (now (sheet .entry)) (now (proposals .entry)) (now (marks .entry)) (now (published .entry)) parties) party 0 ⌝ }
@@ -37,7 +44,7 @@ pub fn asked<'a>(
     if !wellformed::parts_well_formed(sheet, proposals, marks, published, parties) {
         return Reply::Refused(Refusal::Session);
     }
-    if !is_party(sheet[5], party) {
+    if !is_party(sheet[PARTIES_AT], party) {
         return Reply::Refused(Refusal::Party);
     }
     Reply::Gave(0)
@@ -47,9 +54,9 @@ pub fn asked<'a>(
 fn act_on(
     sheet: &[u8],
     len: usize,
-    proposals: &[u32; 16],
-    marks: &mut [u8; 1024],
-    published: &mut [u8; 256],
+    proposals: &[u32; MOST_PARTIES],
+    marks: &mut [u8; MOST_UNITS],
+    published: &mut [u8; CELLS],
     p: Party,
     i: u8,
     n: u8,
@@ -62,11 +69,11 @@ fn act_on(
 
 // A step of party `party`, on the parts of a session: the place acted on, or 8 where nothing changes.
 pub fn step_parts<'a>(
-    sheet: &'a [u8; 1898],
-    proposals: &'a [u32; 16],
-    marks: &mut [u8; 1024],
-    published: &mut [u8; 256],
-    parties: [Party; 16],
+    sheet: &'a [u8; MOST_SHEET],
+    proposals: &'a [u32; MOST_PARTIES],
+    marks: &mut [u8; MOST_UNITS],
+    published: &mut [u8; CELLS],
+    parties: [Party; MOST_PARTIES],
     party: u32,
 ) -> Turn
     ensures { λ r. ⌜ ofParts (now (sheet .entry)) (now (proposals .entry)) (now (marks .exit)) (now (published .exit)) (r .parties) ≡ stepped (ofParts (now (sheet .entry)) (now (proposals .entry)) (now (marks .entry)) (now (published .entry)) parties) party ⌝ }
@@ -78,12 +85,12 @@ pub fn step_parts<'a>(
     }
     let at = party as usize - 1;
     let p = parties[at];
-    if 2 <= p.status {
-        let reply = Reply::Gave(8);
+    if Status::DECIDED <= p.status {
+        let reply = Reply::Gave(Place::DONE);
         return Turn { parties, reply };
     }
     let len = wellformed::carried_length(sheet);
-    let n = sheet[5];
+    let n = sheet[PARTIES_AT];
     let mut after = parties;
     after[at] = act_on(sheet, len, proposals, marks, published, p, party as u8, n);
     let reply = Reply::Gave(p.place);
@@ -97,7 +104,11 @@ pub fn step_parts<'a>(
 fn status_after(status: u8) -> u8
     ensures { λ r. ⌜ r ≡ cond (eqb status 2) 2 3 ⌝ }
 {
-    if status == 2 { 2 } else { 3 }
+    if status == Status::DECIDED {
+        Status::DECIDED
+    } else {
+        Status::STOPPED
+    }
 }
 
 // What a stop makes of a party.

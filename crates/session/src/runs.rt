@@ -12,7 +12,12 @@ use crate::act;
 use crate::parts;
 use answers::Refusal;
 use answers::Verdict;
+use sheet::sizes::MOST_PARTIES;
+use sheet::sizes::MOST_UNITS;
+use sheet::sizes::PARTIES_AT;
+use state::CELLS;
 use state::Party;
+use state::Status;
 use state::opening;
 
 // Whether a schedule byte is a step or a stop of one of n parties, by its party alone: no branch on which of the two it is.
@@ -56,21 +61,21 @@ fn first_bad_byte(schedule: &[u8], n: u8) -> usize
 }
 
 // Obeys a schedule of good bytes on an accepted sheet, from a fresh session: the parties at the end.
-fn obey(sheet: &[u8], proposals: &[u32], schedule: &[u8], n: u8) -> [Party; 16]
+fn obey(sheet: &[u8], proposals: &[u32], schedule: &[u8], n: u8) -> [Party; MOST_PARTIES]
     requires { ⌜ (Rules6 (now sheet)) × (n ≡ partiesOf (now sheet)) × (length (now proposals) ≡ n) × (T (all (byteOk n) (now schedule))) ⌝ }
     ensures { λ r. ⌜ r ≡ ran (now (sheet .entry)) (now (proposals .entry)) (now (schedule .entry)) .parties ⌝ }
 {
     let kept = opening::proposals_copy(proposals);
     let mut parties = opening::fresh_parties(n);
-    let mut marks = [0u8; 1024];
-    let mut published = [0u8; 256];
+    let mut marks = [0u8; MOST_UNITS];
+    let mut published = [0u8; CELLS];
     let mut j = 0;
     while j < schedule.len() {
         let b = schedule[j];
         let i = b % 128;
         let at = i as usize - 1;
         let p = parties[at];
-        if p.status < 2 {
+        if p.status < Status::DECIDED {
             match b {
                 0..=127 => parties[at] = act::act(
                     sheet,
@@ -98,11 +103,11 @@ pub fn run(sheet: &[u8], proposals: &[u32], schedule: &[u8], out: &mut [u8]) -> 
     if let Verdict::Refused(_) = verdict {
         return verdict;
     }
-    let n = sheet[5];
+    let n = sheet[PARTIES_AT];
     if !schedule_ok(schedule, n) {
         return Verdict::Refused(Refusal::Schedule(first_bad_byte(schedule, n) - 1));
     }
-    if out.len() < 4 + 7 * (n as usize) {
+    if out.len() < record::HEAD_LENGTH + record::PARTY_LENGTH * (n as usize) {
         return Verdict::Refused(Refusal::Output);
     }
     let parties = obey(sheet, proposals, schedule, n);

@@ -2,3 +2,4 @@
 pub mod bytes;
 pub mod rows;
 pub mod sets;
+pub mod sizes;

@@ -4,6 +4,13 @@ ghost use Prim.Native.Nat.{_+_, _<_, _≤_};
 ghost use lib.ListN.{length, drop};
 ghost use Rattle.sheet.specs.Rows.{slot, slotAfter, rowCount, sheetLength, rowFrom, taken, rowPlace, rowOf};
 use crate::bytes;
+use crate::sizes::HEADER_LENGTH;
+use crate::sizes::MASK_AT;
+use crate::sizes::MOST_PARTIES;
+use crate::sizes::MOST_ROWS;
+use crate::sizes::OWN_AT;
+use crate::sizes::PAIR_AT;
+use crate::sizes::ROW_LENGTH;
 
 pub struct Row {
     pub start: u16,
@@ -44,7 +51,7 @@ impl Slot {
     {
         let round = self.round;
         let party = self.party;
-        if 16 < round {
+        if MOST_PARTIES < round {
             return self;
         }
         if party < round {
@@ -77,7 +84,7 @@ pub fn row_count(n: u8) -> usize
 pub fn sheet_length(n: u8) -> usize
     ensures { λ r. ⌜ r ≡ sheetLength n ⌝ }
 {
-    8 + 14 * row_count(n)
+    HEADER_LENGTH + ROW_LENGTH * row_count(n)
 }
 
 // The row that 14 bytes say.
@@ -87,9 +94,9 @@ fn row_from(s: &[u8], at: usize) -> Row
 {
     Row {
         start: bytes::two_at(s, at),
-        mask: bytes::eight_at(s, at + 2),
-        own: bytes::two_at(s, at + 10),
-        pair: bytes::two_at(s, at + 12),
+        mask: bytes::eight_at(s, at + MASK_AT),
+        own: bytes::two_at(s, at + OWN_AT),
+        pair: bytes::two_at(s, at + PAIR_AT),
     }
 }
 
@@ -97,9 +104,9 @@ fn row_from(s: &[u8], at: usize) -> Row
 pub fn row_at(s: &[u8], row: usize) -> Taken
     ensures { λ r. ⌜ r ≡ taken (now (s .entry)) row ⌝ }
 {
-    if row < 135 {
-        let at = 8 + 14 * row;
-        if at + 14 <= s.len() {
+    if row < MOST_ROWS {
+        let at = HEADER_LENGTH + ROW_LENGTH * row;
+        if at + ROW_LENGTH <= s.len() {
             return Taken {
                 row: row_from(s, at),
                 next: row + 1,
@@ -118,13 +125,6 @@ pub fn row_at(s: &[u8], row: usize) -> Taken
 }
 
 // ---- the reader
-
-// A reader at the sheet's first row.
-pub fn rows_of<'a>(sheet: &'a [u8]) -> RowReader<'a>
-    ensures { λ r. ⌜ (r .sheet ≡ sheet .entry) × (r .row ≡ 0) ⌝ }
-{
-    RowReader { sheet, row: 0 }
-}
 
 // A reader at any row.
 pub fn rows_from<'a>(sheet: &'a [u8], row: usize) -> RowReader<'a>
@@ -157,16 +157,16 @@ fn row_place(round: usize, party: usize) -> usize
     ensures { λ r. ⌜ r ≡ rowPlace round party ⌝ }
 {
     if round < 2 {
-        return 135;
+        return MOST_ROWS;
     }
-    if 16 < round {
-        return 135;
+    if MOST_PARTIES < round {
+        return MOST_ROWS;
     }
     if party < 1 {
-        return 135;
+        return MOST_ROWS;
     }
     if round < party {
-        return 135;
+        return MOST_ROWS;
     }
     round * (round - 1) / 2 - 1 + party - 1
 }

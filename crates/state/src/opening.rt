@@ -7,10 +7,15 @@ ghost use Rattle.sheet.specs.Lists.{from};
 ghost use Rattle.answers.specs.Answers.{answerOf};
 ghost use Rattle.state.specs.Session.{freshParty, noParty, filled, freshSession};
 ghost use Rattle.state.specs.Opening.{openAnswer, opened};
+use crate::kept::CELLS;
 use crate::kept::Party;
 use crate::kept::Session;
 use answers::Refusal;
 use answers::Verdict;
+use sheet::sizes::MOST_PARTIES;
+use sheet::sizes::MOST_SHEET;
+use sheet::sizes::MOST_UNITS;
+use sheet::sizes::PARTIES_AT;
 
 // A session that was opened, or why it was not.
 pub struct Opened {
@@ -18,11 +23,11 @@ pub struct Opened {
     pub verdict: Verdict,
 }
 
-fn sheet_copy(sheet: &[u8]) -> [u8; 1898]
+fn sheet_copy(sheet: &[u8]) -> [u8; MOST_SHEET]
     requires { ⌜ length (now sheet) ≤ 1898 ⌝ }
     ensures { λ r. ⌜ r ≡ filled 1898 (now (sheet .entry)) ⌝ }
 {
-    let mut copy = [0u8; 1898];
+    let mut copy = [0u8; MOST_SHEET];
     let mut j = 0;
     while j < sheet.len() {
         copy[j] = sheet[j];
@@ -35,15 +40,19 @@ fn sheet_copy(sheet: &[u8]) -> [u8; 1898]
 fn at_most_16(count: usize) -> usize
     ensures { λ r. ⌜ r ≡ min count 16 ⌝ }
 {
-    if count < 16 { count } else { 16 }
+    if count < MOST_PARTIES {
+        count
+    } else {
+        MOST_PARTIES
+    }
 }
 
 // The first 16 proposals; where there are fewer, zeros behind them.
-pub fn proposals_copy(proposals: &[u32]) -> [u32; 16]
+pub fn proposals_copy(proposals: &[u32]) -> [u32; MOST_PARTIES]
     ensures { λ r. ⌜ r ≡ filled 16 (take 16 (now (proposals .entry))) ⌝ }
 {
     let count = at_most_16(proposals.len());
-    let mut copy = [0u32; 16];
+    let mut copy = [0u32; MOST_PARTIES];
     let mut j = 0;
     while j < count {
         copy[j] = proposals[j];
@@ -53,12 +62,12 @@ pub fn proposals_copy(proposals: &[u32]) -> [u32; 16]
 }
 
 // Fresh parties 1 to n, at most 16, and unused entries behind them.
-pub fn fresh_parties(n: u8) -> [Party; 16]
+pub fn fresh_parties(n: u8) -> [Party; MOST_PARTIES]
     ensures { λ r. ⌜ r ≡ map freshParty (from 1 (min n 16)) ++ replicate (16 - n) noParty ⌝ }
 {
     let count = at_most_16(n as usize);
     let none = Party::fresh(0);
-    let mut parties = [none; 16];
+    let mut parties = [none; MOST_PARTIES];
     let mut at = 0;
     while at < count {
         parties[at] = Party::fresh(at as u8 + 1);
@@ -77,8 +86,8 @@ fn fresh_session(sheet: &[u8], proposals: &[u32], n: u8) -> Session
     Session {
         sheet: copy,
         proposals: kept,
-        marks: [0; 1024],
-        published: [0; 256],
+        marks: [0; MOST_UNITS],
+        published: [0; CELLS],
         parties,
     }
 }
@@ -89,11 +98,11 @@ fn blank_session() -> Session
 {
     let none = Party::fresh(0);
     Session {
-        sheet: [0; 1898],
-        proposals: [0; 16],
-        marks: [0; 1024],
-        published: [0; 256],
-        parties: [none; 16],
+        sheet: [0; MOST_SHEET],
+        proposals: [0; MOST_PARTIES],
+        marks: [0; MOST_UNITS],
+        published: [0; CELLS],
+        parties: [none; MOST_PARTIES],
     }
 }
 
@@ -105,7 +114,7 @@ pub fn opens(sheet: &[u8], proposals: &[u32]) -> Verdict
     if let Verdict::Refused(_) = verdict {
         return verdict;
     }
-    if proposals.len() != sheet[5] as usize {
+    if proposals.len() != sheet[PARTIES_AT] as usize {
         return Verdict::Refused(Refusal::Proposals);
     }
     Verdict::Done
@@ -120,6 +129,6 @@ pub fn open_value(sheet: &[u8], proposals: &[u32]) -> Opened
         let session = blank_session();
         return Opened { session, verdict };
     }
-    let session = fresh_session(sheet, proposals, sheet[5]);
+    let session = fresh_session(sheet, proposals, sheet[PARTIES_AT]);
     Opened { session, verdict }
 }

@@ -9,19 +9,35 @@ ghost use Rattle.sheet.specs.Bytes.{num};
 ghost use Rattle.rules.specs.Check.{checkAnswer};
 ghost use Rattle.state.specs.Session.{ofParts};
 ghost use Rattle.state.specs.WellFormed.{carriedOk, marksOk, isLower, publishedOk, proposalsOk, same, roundOk, scanOk, lowerOk, topOk, idleOk, unstartedOk, decisionOk, statusOk, rangesOk, partyOk, unusedOk, partiesOk, wellFormed};
+use crate::kept::CELLS;
+use crate::kept::MOST_STEPS;
+use crate::kept::Mark;
 use crate::kept::Party;
-use crate::kept::Session;
+use crate::kept::Place;
+use crate::kept::Status;
 use crate::kept::cell_of;
 use answers::Verdict;
 use sheet::bytes;
+use sheet::sizes::LENGTH_AT;
+use sheet::sizes::LENGTH_LOW_AT;
+use sheet::sizes::MOST_PARTIES;
+use sheet::sizes::MOST_SHEET;
+use sheet::sizes::MOST_UNITS;
+use sheet::sizes::PARTIES_AT;
+use sheet::sizes::UNITS_AT;
+use sheet::sizes::UNITS_LOW_AT;
 
 // How many bytes of the copy the carried sheet has.
-pub fn carried_length(sheet: &[u8; 1898]) -> usize
+pub fn carried_length(sheet: &[u8; MOST_SHEET]) -> usize
     ensures { λ r. ⌜ r ≡ min (num (now (sheet .entry)) 0 2) 1898 ⌝ }
 {
     let s: &[u8] = sheet;
-    let field = bytes::two(s[0], s[1]) as usize;
-    if field < 1898 { field } else { 1898 }
+    let field = bytes::two(s[LENGTH_AT], s[LENGTH_LOW_AT]) as usize;
+    if field < MOST_SHEET {
+        field
+    } else {
+        MOST_SHEET
+    }
 }
 
 // Whether the front of a slice is an accepted sheet.
@@ -49,7 +65,7 @@ fn zeros_from(s: &[u8], start: usize) -> bool
 }
 
 // The carried sheet is accepted, and the copy past it is zero.
-fn sheet_ok(sheet: &[u8; 1898]) -> bool
+fn sheet_ok(sheet: &[u8; MOST_SHEET]) -> bool
     ensures { λ r. ⌜ r ≡ carriedOk (now (sheet .entry)) ⌝ }
 {
     let len = carried_length(sheet);
@@ -62,14 +78,14 @@ fn sheet_ok(sheet: &[u8; 1898]) -> bool
 fn most_mark(u: usize, units: usize) -> u8
     ensures { λ r. ⌜ r ≡ cond (ltb u units) 2 0 ⌝ }
 {
-    if u < units { 2 } else { 0 }
+    if u < units { Mark::HIGHER } else { Mark::EMPTY }
 }
 
-fn marks_ok(marks: &[u8; 1024], units: usize) -> bool
+fn marks_ok(marks: &[u8; MOST_UNITS], units: usize) -> bool
     ensures { λ r. ⌜ r ≡ marksOk units (now (marks .entry)) ⌝ }
 {
     let mut u = 0;
-    while u < 1024 {
+    while u < MOST_UNITS {
         if most_mark(u, units) < marks[u] {
             return false;
         }
@@ -81,8 +97,8 @@ fn marks_ok(marks: &[u8; 1024], units: usize) -> bool
 fn most_published(n: usize, j: usize) -> usize
     ensures { λ r. ⌜ r ≡ cond (isLower n (j / 16 + 1) (j % 16 + 1)) n 0 ⌝ }
 {
-    let r = j / 16 + 1;
-    let k = j % 16 + 1;
+    let r = j / MOST_PARTIES + 1;
+    let k = j % MOST_PARTIES + 1;
     if r < 2 {
         return 0;
     }
@@ -92,11 +108,11 @@ fn most_published(n: usize, j: usize) -> usize
     if k < r { n } else { 0 }
 }
 
-fn published_ok(published: &[u8; 256], n: usize) -> bool
+fn published_ok(published: &[u8; CELLS], n: usize) -> bool
     ensures { λ r. ⌜ r ≡ publishedOk n (now (published .entry)) ⌝ }
 {
     let mut j = 0;
-    while j < 256 {
+    while j < CELLS {
         let most = most_published(n, j);
         if most < bytes::size(published[j]) {
             return false;
@@ -106,11 +122,11 @@ fn published_ok(published: &[u8; 256], n: usize) -> bool
     true
 }
 
-fn proposals_ok(proposals: &[u32; 16], n: usize) -> bool
+fn proposals_ok(proposals: &[u32; MOST_PARTIES], n: usize) -> bool
     ensures { λ r. ⌜ r ≡ proposalsOk n (now (proposals .entry)) ⌝ }
 {
     let mut j = n;
-    while j < 16 {
+    while j < MOST_PARTIES {
         if proposals[j] != 0 {
             return false;
         }
@@ -136,7 +152,7 @@ fn round_ok(n: u8, i: u8, p: Party) -> bool
     ensures { λ r. ⌜ r ≡ roundOk n i p ⌝ }
 {
     let round = p.round;
-    if is_within(1, 6, p.place) {
+    if is_within(Place::PUBLISH, Place::FETCH, p.place) {
         if !is_within(2, n, round) {
             return false;
         }
@@ -150,7 +166,7 @@ fn scan_ok(p: Party) -> bool
     ensures { λ r. ⌜ r ≡ scanOk p ⌝ }
 {
     let k = p.k;
-    if is_within(4, 6, p.place) {
+    if is_within(Place::READ_OWN, Place::FETCH, p.place) {
         if k < 1 {
             return false;
         }
@@ -164,21 +180,21 @@ fn lower_ok(i: u8, p: Party) -> bool
     ensures { λ r. ⌜ r ≡ lowerOk i p ⌝ }
 {
     let place = p.place;
-    if place == 1 {
+    if place == Place::PUBLISH {
         return i < p.round;
     }
-    if place == 3 {
+    if place == Place::READ_TOP {
         return i < p.round;
     }
     true
 }
 
 // Place 6 is the top's, after a witness that has published.
-fn top_ok(published: &[u8; 256], i: u8, p: Party) -> bool
+fn top_ok(published: &[u8; CELLS], i: u8, p: Party) -> bool
     requires { ⌜ (p .place ≡ 6 → (p .round ≤ 16) × (p .k ≤ 16)) ⌝ }
     ensures { λ r. ⌜ r ≡ topOk (now (published .entry)) i p ⌝ }
 {
-    if p.place != 6 {
+    if p.place != Place::FETCH {
         return true;
     }
     if i != p.round {
@@ -192,17 +208,17 @@ fn top_ok(published: &[u8; 256], i: u8, p: Party) -> bool
 fn idle_ok(p: Party) -> bool
     ensures { λ r. ⌜ r ≡ idleOk p ⌝ }
 {
-    if p.status == 3 {
+    if p.status == Status::STOPPED {
         return true;
     }
-    is_same(p.status == 0, p.place == 0)
+    is_same(p.status == Status::IDLE, p.place == Place::ANNOUNCE)
 }
 
 // No own steps at place 0.
 fn unstarted_ok(p: Party) -> bool
     ensures { λ r. ⌜ r ≡ unstartedOk p ⌝ }
 {
-    if p.place != 0 {
+    if p.place != Place::ANNOUNCE {
         return true;
     }
     p.steps == 0
@@ -212,7 +228,7 @@ fn unstarted_ok(p: Party) -> bool
 fn decision_ok(p: Party) -> bool
     ensures { λ r. ⌜ r ≡ decisionOk p ⌝ }
 {
-    if p.status == 2 {
+    if p.status == Status::DECIDED {
         return true;
     }
     p.decision == 0
@@ -222,18 +238,24 @@ fn decision_ok(p: Party) -> bool
 fn status_ok(p: Party) -> bool
     ensures { λ r. ⌜ r ≡ statusOk p ⌝ }
 {
-    is_same(p.status == 2, p.place == 8) && idle_ok(p) && unstarted_ok(p) && decision_ok(p)
+    is_same(p.status == Status::DECIDED, p.place == Place::DONE)
+        && idle_ok(p)
+        && unstarted_ok(p)
+        && decision_ok(p)
 }
 
 // The numbers of a party alone.
 fn ranges_ok(n: u8, p: Party) -> bool
     ensures { λ r. ⌜ r ≡ rangesOk n p ⌝ }
 {
-    p.status <= 3 && p.place <= 8 && is_within(1, n, p.candidate) && p.steps <= 1000
+    p.status <= Status::STOPPED
+        && p.place <= Place::DONE
+        && is_within(1, n, p.candidate)
+        && p.steps <= MOST_STEPS
 }
 
 // Party i of n.
-fn party_ok(n: u8, published: &[u8; 256], i: u8, p: Party) -> bool
+fn party_ok(n: u8, published: &[u8; CELLS], i: u8, p: Party) -> bool
     requires { ⌜ n ≤ 16 ⌝ }
     ensures { λ r. ⌜ r ≡ partyOk n (now (published .entry)) i p ⌝ }
 {
@@ -258,7 +280,7 @@ fn unused_ok(p: Party) -> bool
         && p.decision == 0
 }
 
-fn entry_ok(n: u8, published: &[u8; 256], i: u8, p: Party) -> bool
+fn entry_ok(n: u8, published: &[u8; CELLS], i: u8, p: Party) -> bool
     requires { ⌜ n ≤ 16 ⌝ }
     ensures { λ r. ⌜ r ≡ cond (leb i n) (partyOk n (now (published .entry)) i p) (unusedOk p) ⌝ }
 {
@@ -269,12 +291,14 @@ fn entry_ok(n: u8, published: &[u8; 256], i: u8, p: Party) -> bool
     }
 }
 
-fn parties_ok(n: u8, published: &[u8; 256], parties: [Party; 16]) -> bool
+const LAST_PARTY: u8 = MOST_PARTIES as u8;
+
+fn parties_ok(n: u8, published: &[u8; CELLS], parties: [Party; MOST_PARTIES]) -> bool
     requires { ⌜ n ≤ 16 ⌝ }
     ensures { λ r. ⌜ r ≡ partiesOk n (now (published .entry)) parties ⌝ }
 {
     let mut i: u8 = 1;
-    while i <= 16 {
+    while i <= LAST_PARTY {
         let at = i as usize - 1;
         let p = parties[at];
         if !entry_ok(n, published, i, p) {
@@ -287,19 +311,22 @@ fn parties_ok(n: u8, published: &[u8; 256], parties: [Party; 16]) -> bool
 
 // Every clause, of the parts of a session.
 pub fn parts_well_formed<'a>(
-    sheet: &'a [u8; 1898],
-    proposals: &'a [u32; 16],
-    marks: &'a [u8; 1024],
-    published: &'a [u8; 256],
-    parties: [Party; 16],
+    sheet: &'a [u8; MOST_SHEET],
+    proposals: &'a [u32; MOST_PARTIES],
+    marks: &'a [u8; MOST_UNITS],
+    published: &'a [u8; CELLS],
+    parties: [Party; MOST_PARTIES],
 ) -> bool
     ensures { λ r. ⌜ r ≡ wellFormed (ofParts (now (sheet .entry)) (now (proposals .entry)) (now (marks .entry)) (now (published .entry)) parties) ⌝ }
 {
     if !sheet_ok(sheet) {
         return false;
     }
-    let n = sheet[5];
-    if !marks_ok(marks, bytes::two(sheet[6], sheet[7]) as usize) {
+    let n = sheet[PARTIES_AT];
+    if !marks_ok(
+        marks,
+        bytes::two(sheet[UNITS_AT], sheet[UNITS_LOW_AT]) as usize,
+    ) {
         return false;
     }
     if !published_ok(published, n as usize) {
@@ -309,12 +336,4 @@ pub fn parts_well_formed<'a>(
         return false;
     }
     parties_ok(n, published, parties)
-}
-
-// Every clause, of a session.
-pub fn is_well_formed(s: Session) -> bool
-    ensures { λ r. ⌜ r ≡ wellFormed s ⌝ }
-{
-    let parties = s.parties;
-    parts_well_formed(&s.sheet, &s.proposals, &s.marks, &s.published, parties)
 }

@@ -1,5 +1,6 @@
 // What the calls answer.
 use answers::Refusal;
+use sheet::sizes::MOST_PARTIES;
 use state::Party;
 
 // What a call on a session answers: a place, a status or a live number, or why it was refused.
@@ -10,6 +11,6 @@ pub enum Reply {
 
 // The parties after a call on the parts of a session, and its answer.
 pub struct Turn {
-    pub parties: [Party; 16],
+    pub parties: [Party; MOST_PARTIES],
     pub reply: Reply,
 }
