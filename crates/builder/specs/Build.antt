@@ -6,6 +6,7 @@ use lib.ListN.{length, getD, drop}
 use lib.Dec.{leb, ltb, eqb}
 use Rattle.sheet.specs.Lists.{from, flat}
 use Rattle.sheet.specs.Bytes.{bytesOf}
+use Rattle.sheet.specs.Sizes.{version}
 use Rattle.sheet.specs.Rows.{Layout, slots, sheetLength, rowNumber, noRow, isTop}
 use Rattle.answers.specs.Answers.{Answer, answer, done}
 use Rattle.rules.specs.Check.{numbersOk}
@@ -18,7 +19,7 @@ abbrev pub rowBytes : Row → List ℕ
 rowBytes w = bytesOf 2 (w .start) ++ (bytesOf 8 (w .mask) ++ (bytesOf 2 (w .own) ++ bytesOf 2 (w .pair)))
 
 abbrev pub headerBytes : ℕ → ℕ → ℕ → ℕ → List ℕ
-headerBytes kind bound n units = bytesOf 2 (sheetLength n) ++ (1 ∷ kind ∷ bound ∷ n ∷ bytesOf 2 units)
+headerBytes kind bound n units = bytesOf 2 (sheetLength n) ++ (version ∷ kind ∷ bound ∷ n ∷ bytesOf 2 units)
 
 abbrev pub sheetBytes : Layout → List ℕ
 sheetBytes l =

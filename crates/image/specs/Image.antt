@@ -7,10 +7,13 @@ use lib.Dec.{leb, eqb}
 use lib.ListN.{length, getD, take, drop}
 use Rattle.sheet.specs.Lists.{from, flat}
 use Rattle.sheet.specs.Bytes.{num, bytesOf}
+use Rattle.sheet.specs.Sizes.{mostParties, mostUnits, mostSheet}
+use Rattle.state.specs.Sizes.{cells}
 use Rattle.state.specs.Session.{noParty}
 use Rattle.state.specs.Readings.{Readings}
 use Rattle.state.specs.declared.kept.Party.{Party}
 use Rattle.state.specs.declared.kept.Session.{Session}
+use Rattle.image.specs.Sizes.{proposalLength, proposalsLength, entryLength, proposalsAt, marksAt, publishedAt, entriesAt}
 
 -- a party's 11: status 1, place 1, round 1, k 1, candidate 1, steps 2, decision 4
 abbrev pub partyImage : Party → List ℕ
@@ -18,7 +21,7 @@ partyImage p =
     p .status ∷ p .place ∷ p .round ∷ p .k ∷ p .candidate ∷ bytesOf 2 (p .steps) ++ bytesOf 4 (p .decision)
 
 abbrev pub proposalsBytes : List ℕ → List ℕ
-proposalsBytes xs = flat (map (bytesOf 4) xs)
+proposalsBytes xs = flat (map (bytesOf proposalLength) xs)
 
 abbrev pub partiesBytes : List Party → List ℕ
 partiesBytes ps = flat (map partyImage ps)
@@ -41,33 +44,33 @@ partyFrom b =
 
 -- the proposals of n parties, 4 bytes each
 abbrev pub proposalsOf : ℕ → List ℕ → List ℕ
-proposalsOf n b = map (λ j. num b (4 * j) 4) (from 0 n)
+proposalsOf n b = map (λ j. num b (proposalLength * j) proposalLength) (from 0 n)
 
 -- how many proposals so many bytes hold; 0, which is no number of parties, where they are more than 64 or no multiple of 4
 abbrev pub proposalCount : ℕ → ℕ
-proposalCount len = cond (leb len 64 && eqb (len % 4) 0) (len / 4) 0
+proposalCount len = cond (leb len proposalsLength && eqb (len % proposalLength) 0) (len / proposalLength) 0
 
 -- the proposals of a slice: as many as it holds
 abbrev pub proposalsIn : List ℕ → List ℕ
 proposalsIn b = proposalsOf (proposalCount (length b)) b
 
 abbrev pub partiesFrom : List ℕ → List Party
-partiesFrom b = map (λ j. partyFrom (drop (11 * j) b)) (from 0 16)
+partiesFrom b = map (λ j. partyFrom (drop (entryLength * j) b)) (from 0 mostParties)
 
 -- the session that 3,418 bytes say
 abbrev pub sessionOf : List ℕ → Session
 sessionOf b =
     record {
-      sheet = take 1898 b;
-      proposals = proposalsOf 16 (drop 1898 b);
-      marks = take 1024 (drop 1962 b);
-      published = take 256 (drop 2986 b);
-      parties = partiesFrom (drop 3242 b);
+      sheet = take mostSheet b;
+      proposals = proposalsOf mostParties (drop proposalsAt b);
+      marks = take mostUnits (drop marksAt b);
+      published = take cells (drop publishedAt b);
+      parties = partiesFrom (drop entriesAt b);
     }
 
 -- where party i's bytes stand: after 3,242 of the sheet, proposals, marks and published candidates, 11 for each party before it
 abbrev pub partyPlace : ℕ → ℕ
-partyPlace i = 3242 + 11 * (i - 1)
+partyPlace i = entriesAt + entryLength * (i - 1)
 
 -- what the bytes of a session say of each party
 abbrev pub ofImage : List ℕ → Readings
@@ -93,13 +96,13 @@ pub record SizedParty (p : Party) : Type 0 where
   pub decisionFits : p .decision < 2 ^ 32
 
 pub record Sized (s : Session) : Type 0 where
-  pub sheetLength : length (s .sheet) ≡ 1898
+  pub sheetLength : length (s .sheet) ≡ mostSheet
   pub sheetFits : Below 256 (s .sheet)
-  pub proposalsLength : length (s .proposals) ≡ 16
+  pub proposalsLength : length (s .proposals) ≡ mostParties
   pub proposalsFit : Below (2 ^ 32) (s .proposals)
-  pub marksLength : length (s .marks) ≡ 1024
+  pub marksLength : length (s .marks) ≡ mostUnits
   pub marksFit : Below 256 (s .marks)
-  pub publishedLength : length (s .published) ≡ 256
+  pub publishedLength : length (s .published) ≡ cells
   pub publishedFits : Below 256 (s .published)
-  pub partiesLength : length (s .parties) ≡ 16
+  pub partiesLength : length (s .parties) ≡ mostParties
   pub partiesFit : (k : ℕ) → k < length (s .parties) → SizedParty (getD (s .parties) k noParty)

@@ -1,2 +1,3 @@
 -- A session in bytes.
+pub mod Sizes
 pub mod Image

@@ -3,5 +3,6 @@ pub mod Lists
 pub mod Bytes
 pub mod Sets
 pub mod Length
+pub mod Sizes
 pub mod Rows
 pub mod Words

@@ -7,6 +7,7 @@ use lib.Dec.{leb, ltb, eqb}
 use Rattle.sheet.specs.Lists.{from, flat}
 use Rattle.sheet.specs.Bytes.{num}
 use Rattle.sheet.specs.Sets.{inSet}
+use Rattle.sheet.specs.Sizes.{headerLength, kindAt, boundAt, partiesAt, unitsAt, rowLength, startAt, maskAt, ownAt, pairAt, mostParties, mostRows}
 use Rattle.sheet.specs.declared.rows.Row.{Row}
 use Rattle.sheet.specs.declared.rows.Slot.{Slot}
 use Rattle.sheet.specs.declared.rows.Taken.{Taken}
@@ -25,7 +26,7 @@ nextSlot p = cond (ltb (p .party) (p .round)) (slot (p .round) (p .party + 1)) (
 
 -- the same up to round 16, the last that a sheet can have; past it there is no row, and the slot stays
 abbrev pub slotAfter : Slot → Slot
-slotAfter p = cond (leb (p .round) 16) (nextSlot p) p
+slotAfter p = cond (leb (p .round) mostParties) (nextSlot p) p
 
 -- the number of rows
 abbrev pub rowCount : ℕ → ℕ
@@ -33,7 +34,7 @@ rowCount n = n * (n + 1) / 2 - 1
 
 -- the length of the whole sheet
 abbrev pub sheetLength : ℕ → ℕ
-sheetLength n = 8 + 14 * rowCount n
+sheetLength n = headerLength + rowLength * rowCount n
 
 -- which row, counted from 1: the rounds before round r have r (r − 1) / 2 − 1 rows
 abbrev pub rowNumber : Slot → ℕ
@@ -41,11 +42,11 @@ rowNumber p = p .round * (p .round - 1) / 2 - 1 + p .party
 
 -- the row that 14 bytes say
 abbrev pub rowFrom : List ℕ → Row
-rowFrom s = record { start = num s 0 2; mask = num s 2 8; own = num s 10 2; pair = num s 12 2 }
+rowFrom s = record { start = num s startAt 2; mask = num s maskAt 8; own = num s ownAt 2; pair = num s pairAt 2 }
 
 -- row k of a sheet, counted from 0
 abbrev pub rowAt : List ℕ → ℕ → Row
-rowAt s k = rowFrom (drop (8 + 14 * k) s)
+rowAt s k = rowFrom (drop (headerLength + rowLength * k) s)
 
 -- unit u is in the row's set
 abbrev pub writes : Row → ℕ → Bool
@@ -60,7 +61,7 @@ sameSlot p q = eqb (p .round) (q .round) && eqb (p .party) (q .party)
 
 -- how many parties a sheet is for
 abbrev pub partiesOf : List ℕ → ℕ
-partiesOf s = getD s 5 0
+partiesOf s = getD s partiesAt 0
 
 -- what a sheet says
 pub record Layout : Type 0 where
@@ -73,10 +74,10 @@ pub record Layout : Type 0 where
 abbrev pub layoutOf : List ℕ → Layout
 layoutOf s =
     record {
-      kind = getD s 3 0;
-      bound = getD s 4 0;
+      kind = getD s kindAt 0;
+      bound = getD s boundAt 0;
       parties = partiesOf s;
-      units = num s 6 2;
+      units = num s unitsAt 2;
       row = λ p. rowAt s (rowNumber p - 1);
     }
 
@@ -88,11 +89,11 @@ noRow = record { start = 0; mask = 0; own = 0; pair = 0 }
 -- at a place with a whole row: that row, and the next place; elsewhere no row, and the same place
 abbrev pub taken : List ℕ → ℕ → Taken
 taken s k =
-    cond (ltb k 135 && leb (8 + 14 * suc k) (length s)) (record { row = rowAt s k; next = suc k }) (record { row = noRow; next = k })
+    cond (ltb k mostRows && leb (headerLength + rowLength * suc k) (length s)) (record { row = rowAt s k; next = suc k }) (record { row = noRow; next = k })
 
 -- the place of party i's row of round r, or a place with no row where there can be none
 abbrev pub rowPlace : ℕ → ℕ → ℕ
-rowPlace r i = cond (leb 2 r && leb r 16 && leb 1 i && leb i r) (rowNumber (slot r i) - 1) 135
+rowPlace r i = cond (leb 2 r && leb r mostParties && leb 1 i && leb i r) (rowNumber (slot r i) - 1) mostRows
 
 abbrev pub rowOf : List ℕ → ℕ → ℕ → Row
 rowOf s r i = taken s (rowPlace r i) .row

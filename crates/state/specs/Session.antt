@@ -4,13 +4,18 @@ use mathlib.Core.List.{List, _++_, map}
 use lib.ListN.{length, getD, take, replicate}
 use Rattle.sheet.specs.Lists.{from}
 use Rattle.sheet.specs.Bytes.{num}
+use Rattle.sheet.specs.Sizes.{lengthAt, mostParties, mostUnits, mostSheet}
 use Rattle.sheet.specs.Rows.{Layout, layoutOf}
+use Rattle.state.specs.Mark as Mark
+use Rattle.state.specs.Status as Status
+use Rattle.state.specs.Place as Place
+use Rattle.state.specs.Sizes.{cells}
 use Rattle.state.specs.declared.kept.Party.{Party}
 use Rattle.state.specs.declared.kept.Session.{Session}
 
 -- party i as it starts: idle at place 0, its own number as candidate
 abbrev pub freshParty : ℕ → Party
-freshParty i = record { status = 0; place = 0; round = 0; k = 0; candidate = i; steps = 0; decision = 0 }
+freshParty i = record { status = Status.idle; place = Place.announce; round = 0; k = 0; candidate = i; steps = 0; decision = 0 }
 
 -- an unused entry
 abbrev pub noParty : Party
@@ -24,11 +29,11 @@ filled size xs = xs ++ replicate (size - length xs) 0
 abbrev pub freshSession : List ℕ → List ℕ → ℕ → Session
 freshSession sheet proposals n =
     record {
-      sheet = filled 1898 sheet;
-      proposals = filled 16 proposals;
-      marks = replicate 1024 0;
-      published = replicate 256 0;
-      parties = map freshParty (from 1 n) ++ replicate (16 - n) noParty;
+      sheet = filled mostSheet sheet;
+      proposals = filled mostParties proposals;
+      marks = replicate mostUnits Mark.empty;
+      published = replicate cells 0;
+      parties = map freshParty (from 1 n) ++ replicate (mostParties - n) noParty;
     }
 
 -- a session of its parts
@@ -38,7 +43,7 @@ ofParts sheet proposals marks published parties =
 
 -- the sheet that a session carries: as many bytes of its copy as the length field says
 abbrev pub carriedOf : List ℕ → List ℕ
-carriedOf sheet = take (num sheet 0 2) sheet
+carriedOf sheet = take (num sheet lengthAt 2) sheet
 
 abbrev pub carried : Session → List ℕ
 carried s = carriedOf (s .sheet)
@@ -51,4 +56,4 @@ partyOf ps i = getD ps (i - 1) noParty
 
 -- where the published candidate of round r and lower k stands
 abbrev pub cell : ℕ → ℕ → ℕ
-cell r k = 16 * (r - 1) + (k - 1)
+cell r k = mostParties * (r - 1) + (k - 1)
