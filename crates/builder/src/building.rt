@@ -3,6 +3,7 @@ ghost use mathlib.Core.Path.{_≡_};
 ghost use mathlib.Core.List.{_++_};
 ghost use Prim.Native.Nat.{_+_, _*_, _^_, _≤_, _<_};
 ghost use lib.ListN.{length, take, drop};
+ghost use Rattle.sheet.specs.Sizes.{headerLength, rowLength, mostBound, mostParties};
 ghost use Rattle.sheet.specs.Rows.{sheetLength, rowNumber};
 ghost use Rattle.sheet.specs.Bytes.{bytesOf};
 ghost use Rattle.sheet.specs.Words.{IsSlot};
@@ -120,7 +121,7 @@ fn table_row(k: usize) -> Row
 
 // Kind 2: a row in its round's word.
 fn word_row(bound: u16, p: Slot) -> Row
-    requires { ⌜ (IsSlot 16 p) × (2 * p .round ≤ bound + 1) × (bound ≤ 64) ⌝ }
+    requires { ⌜ (IsSlot mostParties p) × (2 * p .round ≤ bound + 1) × (bound ≤ mostBound) ⌝ }
     ensures { λ r. ⌜ r ≡ row2 bound p ⌝ }
 {
     let r = p.round as u16;
@@ -181,8 +182,8 @@ fn put_mask(o: &mut [u8], m: u64)
 
 // A row's 14 bytes, at the start of what is lent.
 fn put_row(o: &mut [u8], w: Row)
-    requires { ⌜ 14 ≤ length (now o) ⌝ }
-    ensures { λ _. ⌜ now (o .exit) ≡ rowBytes w ++ drop 14 (now (o .entry)) ⌝ }
+    requires { ⌜ rowLength ≤ length (now o) ⌝ }
+    ensures { λ _. ⌜ now (o .exit) ≡ rowBytes w ++ drop rowLength (now (o .entry)) ⌝ }
 {
     put_two(o, START_AT, w.start);
     put_mask(o, w.mask);
@@ -192,8 +193,8 @@ fn put_row(o: &mut [u8], w: Row)
 
 // The header's 8 bytes.
 fn put_header(o: &mut [u8], kind: u32, bound: u32, parties: u32)
-    requires { ⌜ (Given kind bound parties) × (8 ≤ length (now o)) ⌝ }
-    ensures { λ _. ⌜ now (o .exit) ≡ headerBytes kind bound parties (builtUnits kind bound parties) ++ drop 8 (now (o .entry)) ⌝ }
+    requires { ⌜ (Given kind bound parties) × (headerLength ≤ length (now o)) ⌝ }
+    ensures { λ _. ⌜ now (o .exit) ≡ headerBytes kind bound parties (builtUnits kind bound parties) ++ drop headerLength (now (o .entry)) ⌝ }
 {
     put_two(o, LENGTH_AT, rows::sheet_length(parties as u8) as u16);
     o[VERSION_AT] = VERSION;

@@ -1,6 +1,7 @@
 // Stop and live on the parts of a session.
 ghost use mathlib.Core.Path.{_≡_};
 ghost use Prim.Native.Nat.{_≤_};
+ghost use Rattle.sheet.specs.Sizes.{mostParties};
 ghost use Rattle.sheet.specs.Lists.{from};
 ghost use Rattle.state.specs.Session.{ofParts, partyOf};
 ghost use Rattle.steps.specs.Step.{isLive};
@@ -47,7 +48,7 @@ pub fn stop_parts<'a>(
 }
 
 fn count_live(parties: [Party; MOST_PARTIES], n: u8) -> u8
-    requires { ⌜ n ≤ 16 ⌝ }
+    requires { ⌜ n ≤ mostParties ⌝ }
     ensures { λ r. ⌜ r ≡ countOf (λ i. isLive (partyOf parties i)) (from 1 n) ⌝ }
 {
     let mut count: u8 = 0;

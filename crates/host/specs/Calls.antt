@@ -11,6 +11,7 @@ use Rattle.state.specs.Session.{freshSession}
 use Rattle.state.specs.declared.kept.Session.{Session}
 use Rattle.steps.specs.Calls.{Told, told, stepTold, stepped, stopTold, stopped, liveTold}
 use Rattle.steps.specs.Run.{runAnswer, runOut}
+use Rattle.image.specs.Sizes.{sessionLength}
 use Rattle.image.specs.Image.{proposalsOf, sessionBytes, sessionOf}
 
 -- ---- open and run: sheet, 7
@@ -27,7 +28,7 @@ proposalsFor sheet proposals = proposalsOf (partiesOf sheet) proposals
 -- ---- open: then 11, for a session slice of another length
 
 abbrev pub hostOpen : List ℕ → List ℕ → ℕ → Answer
-hostOpen sheet proposals len = unlessUnopened sheet proposals (cond (eqb len 3418) done (answer 11 0))
+hostOpen sheet proposals len = unlessUnopened sheet proposals (cond (eqb len sessionLength) done (answer 11 0))
 
 abbrev pub openBytes : List ℕ → List ℕ → List ℕ → List ℕ
 openBytes sheet proposals session =
@@ -37,7 +38,7 @@ openBytes sheet proposals session =
 -- ---- step, stop and live: 9 for a session slice of another length, then as on the session that the bytes say
 
 abbrev pub onSession : List ℕ → (Session → Told) → Told
-onSession bytes tell = cond (eqb (length bytes) 3418) (tell (sessionOf bytes)) (told 9 0)
+onSession bytes tell = cond (eqb (length bytes) sessionLength) (tell (sessionOf bytes)) (told 9 0)
 
 -- the bytes of the session afterwards; a refusal changes nothing
 abbrev pub bytesAfter : List ℕ → Told → (Session → Session) → List ℕ

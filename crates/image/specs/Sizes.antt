@@ -12,6 +12,10 @@ proposalsLength = 64
 abbrev pub entryLength : ℕ
 entryLength = 11
 
+-- those of 16 parties
+abbrev pub entriesLength : ℕ
+entriesLength = 176
+
 -- behind the sheet's copy
 abbrev pub proposalsAt : ℕ
 proposalsAt = 1898

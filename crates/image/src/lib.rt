@@ -11,6 +11,9 @@ ghost use mathlib.Core.Bool.{cond, _&&_};
 ghost use Prim.Native.Nat.{_≤_};
 ghost use lib.ListN.{length, take, replicate};
 ghost use lib.Dec.{eqb, leb};
+ghost use Rattle.sheet.specs.Sizes.{mostParties, mostUnits, mostSheet};
+ghost use Rattle.state.specs.Sizes.{cells};
+ghost use Rattle.image.specs.Sizes.{sessionLength, marksAt, entriesAt};
 ghost use Rattle.state.specs.Session.{noParty, filled, ofParts};
 ghost use Rattle.image.specs.Image.{partiesBytes, sessionBytes, sessionOf};
 use crate::sizes::ENTRIES_AT;
@@ -30,7 +33,7 @@ fn copy_parts(
     marks: &mut [u8; MOST_UNITS],
     published: &mut [u8; CELLS],
 )
-    requires { ⌜ length (now bytes) ≡ 3418 ⌝ }
+    requires { ⌜ length (now bytes) ≡ sessionLength ⌝ }
     ensures { λ _. ⌜ now (sheet .exit) ≡ sessionOf (now (bytes .entry)) .sheet ⌝ }
     ensures { λ _. ⌜ now (marks .exit) ≡ sessionOf (now (bytes .entry)) .marks ⌝ }
     ensures { λ _. ⌜ now (published .exit) ≡ sessionOf (now (bytes .entry)) .published ⌝ }
@@ -47,9 +50,9 @@ pub fn read_parts(
     marks: &mut [u8; MOST_UNITS],
     published: &mut [u8; CELLS],
 )
-    ensures { λ _. ⌜ now (sheet .exit) ≡ cond (eqb (length (now (bytes .entry))) 3418) (sessionOf (now (bytes .entry)) .sheet) (now (sheet .entry)) ⌝ }
-    ensures { λ _. ⌜ now (marks .exit) ≡ cond (eqb (length (now (bytes .entry))) 3418) (sessionOf (now (bytes .entry)) .marks) (now (marks .entry)) ⌝ }
-    ensures { λ _. ⌜ now (published .exit) ≡ cond (eqb (length (now (bytes .entry))) 3418) (sessionOf (now (bytes .entry)) .published) (now (published .entry)) ⌝ }
+    ensures { λ _. ⌜ now (sheet .exit) ≡ cond (eqb (length (now (bytes .entry))) sessionLength) (sessionOf (now (bytes .entry)) .sheet) (now (sheet .entry)) ⌝ }
+    ensures { λ _. ⌜ now (marks .exit) ≡ cond (eqb (length (now (bytes .entry))) sessionLength) (sessionOf (now (bytes .entry)) .marks) (now (marks .entry)) ⌝ }
+    ensures { λ _. ⌜ now (published .exit) ≡ cond (eqb (length (now (bytes .entry))) sessionLength) (sessionOf (now (bytes .entry)) .published) (now (published .entry)) ⌝ }
 {
     if bytes.len() == SESSION_LENGTH {
         copy_parts(bytes, sheet, marks, published);
@@ -58,7 +61,7 @@ pub fn read_parts(
 
 // The proposals that the bytes say.
 pub fn proposals_of(bytes: &[u8]) -> [u32; MOST_PARTIES]
-    ensures { λ r. ⌜ r ≡ cond (eqb (length (now (bytes .entry))) 3418) (sessionOf (now (bytes .entry)) .proposals) (replicate 16 0) ⌝ }
+    ensures { λ r. ⌜ r ≡ cond (eqb (length (now (bytes .entry))) sessionLength) (sessionOf (now (bytes .entry)) .proposals) (replicate mostParties 0) ⌝ }
 {
     if bytes.len() != SESSION_LENGTH {
         return [0; MOST_PARTIES];
@@ -68,7 +71,7 @@ pub fn proposals_of(bytes: &[u8]) -> [u32; MOST_PARTIES]
 
 // The parties that the bytes say.
 pub fn parties_of(bytes: &[u8]) -> [Party; MOST_PARTIES]
-    ensures { λ r. ⌜ r ≡ cond (eqb (length (now (bytes .entry))) 3418) (sessionOf (now (bytes .entry)) .parties) (replicate 16 noParty) ⌝ }
+    ensures { λ r. ⌜ r ≡ cond (eqb (length (now (bytes .entry))) sessionLength) (sessionOf (now (bytes .entry)) .parties) (replicate mostParties noParty) ⌝ }
 {
     if bytes.len() != SESSION_LENGTH {
         let none = Party::fresh(0);
@@ -83,8 +86,8 @@ fn put_acted(
     parties: [Party; MOST_PARTIES],
     bytes: &mut [u8],
 )
-    requires { ⌜ length (now bytes) ≡ 3418 ⌝ }
-    ensures { λ _. ⌜ now (bytes .exit) ≡ take 1962 (now (bytes .entry)) ++ now (marks .entry) ++ now (published .entry) ++ partiesBytes parties ⌝ }
+    requires { ⌜ length (now bytes) ≡ sessionLength ⌝ }
+    ensures { λ _. ⌜ now (bytes .exit) ≡ take marksAt (now (bytes .entry)) ++ now (marks .entry) ++ now (published .entry) ++ partiesBytes parties ⌝ }
 {
     slices::copy(marks, MOST_UNITS, bytes, MARKS_AT);
     slices::copy(published, CELLS, bytes, PUBLISHED_AT);
@@ -98,7 +101,7 @@ pub fn write_acted(
     parties: [Party; MOST_PARTIES],
     bytes: &mut [u8],
 )
-    ensures { λ _. ⌜ now (bytes .exit) ≡ cond (eqb (length (now (bytes .entry))) 3418) (take 1962 (now (bytes .entry)) ++ now (marks .entry) ++ now (published .entry) ++ partiesBytes parties) (now (bytes .entry)) ⌝ }
+    ensures { λ _. ⌜ now (bytes .exit) ≡ cond (eqb (length (now (bytes .entry))) sessionLength) (take marksAt (now (bytes .entry)) ++ now (marks .entry) ++ now (published .entry) ++ partiesBytes parties) (now (bytes .entry)) ⌝ }
 {
     if bytes.len() == SESSION_LENGTH {
         put_acted(marks, published, parties, bytes);
@@ -107,7 +110,7 @@ pub fn write_acted(
 
 // The parties, over their bytes.
 pub fn write_parties(parties: [Party; MOST_PARTIES], bytes: &mut [u8])
-    ensures { λ _. ⌜ now (bytes .exit) ≡ cond (eqb (length (now (bytes .entry))) 3418) (take 3242 (now (bytes .entry)) ++ partiesBytes parties) (now (bytes .entry)) ⌝ }
+    ensures { λ _. ⌜ now (bytes .exit) ≡ cond (eqb (length (now (bytes .entry))) sessionLength) (take entriesAt (now (bytes .entry)) ++ partiesBytes parties) (now (bytes .entry)) ⌝ }
 {
     if bytes.len() == SESSION_LENGTH {
         parties::put_parties(&mut bytes[ENTRIES_AT..], parties);
@@ -120,8 +123,8 @@ fn put_fresh(
     parties: [Party; MOST_PARTIES],
     bytes: &mut [u8],
 )
-    requires { ⌜ (length (now sheet) ≤ 1898) × (length (now bytes) ≡ 3418) ⌝ }
-    ensures { λ _. ⌜ now (bytes .exit) ≡ sessionBytes (ofParts (filled 1898 (now (sheet .entry))) proposals (replicate 1024 0) (replicate 256 0) parties) ⌝ }
+    requires { ⌜ (length (now sheet) ≤ mostSheet) × (length (now bytes) ≡ sessionLength) ⌝ }
+    ensures { λ _. ⌜ now (bytes .exit) ≡ sessionBytes (ofParts (filled mostSheet (now (sheet .entry))) proposals (replicate mostUnits 0) (replicate cells 0) parties) ⌝ }
 {
     let n = sheet.len();
     slices::copy(sheet, n, bytes, 0);
@@ -138,7 +141,7 @@ pub fn write_fresh(
     parties: [Party; MOST_PARTIES],
     bytes: &mut [u8],
 )
-    ensures { λ _. ⌜ now (bytes .exit) ≡ cond (eqb (length (now (bytes .entry))) 3418 && leb (length (now (sheet .entry))) 1898) (sessionBytes (ofParts (filled 1898 (now (sheet .entry))) proposals (replicate 1024 0) (replicate 256 0) parties)) (now (bytes .entry)) ⌝ }
+    ensures { λ _. ⌜ now (bytes .exit) ≡ cond (eqb (length (now (bytes .entry))) sessionLength && leb (length (now (sheet .entry))) mostSheet) (sessionBytes (ofParts (filled mostSheet (now (sheet .entry))) proposals (replicate mostUnits 0) (replicate cells 0) parties)) (now (bytes .entry)) ⌝ }
 {
     if bytes.len() != SESSION_LENGTH {
         return;

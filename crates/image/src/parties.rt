@@ -3,6 +3,7 @@ ghost use mathlib.Core.Path.{_≡_};
 ghost use mathlib.Core.List.{_++_};
 ghost use Prim.Native.Nat.{_≤_};
 ghost use lib.ListN.{length, drop};
+ghost use Rattle.image.specs.Sizes.{entryLength, entriesLength};
 ghost use Rattle.image.specs.Image.{partyImage, partiesBytes, partyFrom, partiesFrom};
 use crate::sizes::ENTRY_LENGTH;
 use sheet::bytes;
@@ -11,7 +12,7 @@ use state::Party;
 
 // The party of 11 bytes.
 fn party_from(s: &[u8]) -> Party
-    requires { ⌜ 11 ≤ length (now s) ⌝ }
+    requires { ⌜ entryLength ≤ length (now s) ⌝ }
     ensures { λ r. ⌜ r ≡ partyFrom (now (s .entry)) ⌝ }
 {
     Party {
@@ -27,8 +28,8 @@ fn party_from(s: &[u8]) -> Party
 
 // A party's 11 bytes, at the start of what is lent.
 fn put_party(o: &mut [u8], p: Party)
-    requires { ⌜ 11 ≤ length (now o) ⌝ }
-    ensures { λ _. ⌜ now (o .exit) ≡ partyImage p ++ drop 11 (now (o .entry)) ⌝ }
+    requires { ⌜ entryLength ≤ length (now o) ⌝ }
+    ensures { λ _. ⌜ now (o .exit) ≡ partyImage p ++ drop entryLength (now (o .entry)) ⌝ }
 {
     o[0] = p.status;
     o[1] = p.place;
@@ -44,7 +45,7 @@ fn put_party(o: &mut [u8], p: Party)
 }
 
 pub(crate) fn parties_from(s: &[u8]) -> [Party; MOST_PARTIES]
-    requires { ⌜ 176 ≤ length (now s) ⌝ }
+    requires { ⌜ entriesLength ≤ length (now s) ⌝ }
     ensures { λ r. ⌜ r ≡ partiesFrom (now (s .entry)) ⌝ }
 {
     let none = Party::fresh(0);
@@ -59,8 +60,8 @@ pub(crate) fn parties_from(s: &[u8]) -> [Party; MOST_PARTIES]
 }
 
 pub(crate) fn put_parties(o: &mut [u8], parties: [Party; MOST_PARTIES])
-    requires { ⌜ 176 ≤ length (now o) ⌝ }
-    ensures { λ _. ⌜ now (o .exit) ≡ partiesBytes parties ++ drop 176 (now (o .entry)) ⌝ }
+    requires { ⌜ entriesLength ≤ length (now o) ⌝ }
+    ensures { λ _. ⌜ now (o .exit) ≡ partiesBytes parties ++ drop entriesLength (now (o .entry)) ⌝ }
 {
     let mut j = 0;
     while j < MOST_PARTIES {

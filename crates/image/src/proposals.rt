@@ -3,6 +3,8 @@ ghost use mathlib.Core.Path.{_≡_};
 ghost use mathlib.Core.List.{_++_};
 ghost use Prim.Native.Nat.{_*_, _≤_};
 ghost use lib.ListN.{length, drop};
+ghost use Rattle.sheet.specs.Sizes.{mostParties};
+ghost use Rattle.image.specs.Sizes.{proposalLength, proposalsLength};
 ghost use Rattle.state.specs.Session.{filled};
 ghost use Rattle.image.specs.Image.{proposalsBytes, proposalsOf, proposalCount, proposalsIn};
 use crate::sizes::PROPOSAL_LENGTH;
@@ -32,8 +34,8 @@ fn proposals_count(len: usize) -> usize
 
 // The proposals of n parties.
 pub(crate) fn numbers_from(s: &[u8], n: usize) -> [u32; MOST_PARTIES]
-    requires { ⌜ (n ≤ 16) × (4 * n ≤ length (now s)) ⌝ }
-    ensures { λ r. ⌜ r ≡ filled 16 (proposalsOf n (now (s .entry))) ⌝ }
+    requires { ⌜ (n ≤ mostParties) × (proposalLength * n ≤ length (now s)) ⌝ }
+    ensures { λ r. ⌜ r ≡ filled mostParties (proposalsOf n (now (s .entry))) ⌝ }
 {
     let mut proposals = [0u32; MOST_PARTIES];
     let mut j = 0;
@@ -48,7 +50,7 @@ pub(crate) fn numbers_from(s: &[u8], n: usize) -> [u32; MOST_PARTIES]
 // The proposals of a slice: as many as it holds, or none where it is of no sheet's length.
 pub fn proposals_from(s: &[u8]) -> Proposals
     ensures { λ r. ⌜ r .count ≡ proposalCount (length (now (s .entry))) ⌝ }
-    ensures { λ r. ⌜ r .numbers ≡ filled 16 (proposalsIn (now (s .entry))) ⌝ }
+    ensures { λ r. ⌜ r .numbers ≡ filled mostParties (proposalsIn (now (s .entry))) ⌝ }
 {
     let count = proposals_count(s.len());
     let numbers = numbers_from(s, count);
@@ -56,8 +58,8 @@ pub fn proposals_from(s: &[u8]) -> Proposals
 }
 
 pub(crate) fn put_proposals(o: &mut [u8], proposals: [u32; MOST_PARTIES])
-    requires { ⌜ 64 ≤ length (now o) ⌝ }
-    ensures { λ _. ⌜ now (o .exit) ≡ proposalsBytes proposals ++ drop 64 (now (o .entry)) ⌝ }
+    requires { ⌜ proposalsLength ≤ length (now o) ⌝ }
+    ensures { λ _. ⌜ now (o .exit) ≡ proposalsBytes proposals ++ drop proposalsLength (now (o .entry)) ⌝ }
 {
     let mut j = 0;
     while j < MOST_PARTIES {

@@ -1,10 +1,11 @@
 // The text of a run, written into a lent buffer.
 ghost use mathlib.Core.Path.{_≡_};
 ghost use mathlib.Core.List.{[], _∷_, _++_};
-ghost use Prim.Native.Nat.{_+_, _*_, _≤_};
-ghost use lib.ListN.{length, getD, drop};
+ghost use Prim.Native.Nat.{_+_, _≤_};
+ghost use lib.ListN.{length, drop};
 ghost use Rattle.sheet.specs.Bytes.{num};
-ghost use Rattle.record.specs.Record.{recordLength};
+ghost use Rattle.sheet.specs.Sizes.{mostParties};
+ghost use Rattle.record.specs.Record.{recordLength, partiesIn};
 ghost use Rattle.lister.specs.Text.{newline, space, statusWord, decimal, countsLine, decisionWord, partyLine};
 ghost use Rattle.lister.specs.Text.{recordLine, listing, refusedText, Put};
 use state::Status;
@@ -117,7 +118,7 @@ fn number(bytes: &[u8], at: usize, n: usize) -> usize
 
 // The line of the party after k others.
 fn put_party(out: &mut [u8], at: usize, bytes: &[u8], k: usize) -> usize
-    requires { ⌜ (4 + 7 * (k + 1) ≤ length (now bytes)) × (at + length (recordLine (now bytes) k) ≤ length (now out)) ⌝ }
+    requires { ⌜ (recordLength (k + 1) ≤ length (now bytes)) × (at + length (recordLine (now bytes) k) ≤ length (now out)) ⌝ }
     ensures { λ r. ⌜ Put (now (out .entry)) at (recordLine (now (bytes .entry)) k) (now (out .exit)) r ⌝ }
 {
     let place = record::HEAD_LENGTH + record::PARTY_LENGTH * k;
@@ -129,7 +130,7 @@ fn put_party(out: &mut [u8], at: usize, bytes: &[u8], k: usize) -> usize
 
 // The text of a record, at the front of out, which has room for 16 parties; bytes past it keep their content.
 pub(crate) fn put_listing(out: &mut [u8], bytes: &[u8], entries: usize) -> usize
-    requires { ⌜ (getD (now bytes) 3 0 ≤ 16) × (recordLength (getD (now bytes) 3 0) ≤ length (now bytes)) × (512 ≤ length (now out)) ⌝ }
+    requires { ⌜ (partiesIn (now bytes) ≤ mostParties) × (recordLength (partiesIn (now bytes)) ≤ length (now bytes)) × (512 ≤ length (now out)) ⌝ }
     ensures { λ r. ⌜ r ≡ length (listing (now (bytes .entry)) entries) ⌝ }
     ensures { λ _. ⌜ now (out .exit) ≡ listing (now (bytes .entry)) entries ++ drop (length (listing (now (bytes .entry)) entries)) (now (out .entry)) ⌝ }
 {

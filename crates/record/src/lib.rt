@@ -5,7 +5,8 @@ ghost use mathlib.Core.Bool.{_&&_, cond};
 ghost use Prim.Native.Nat.{_≤_};
 ghost use lib.Dec.{leb};
 ghost use lib.ListN.{length, drop};
-ghost use Rattle.record.specs.Record.{partyRecord, recordLength, recordHead, recordBytes};
+ghost use Rattle.sheet.specs.Sizes.{mostParties};
+ghost use Rattle.record.specs.Record.{headLength, partyLength, partyRecord, recordLength, recordHead, recordBytes};
 use sheet::sizes::MOST_PARTIES;
 use state::Party;
 
@@ -36,8 +37,8 @@ const LAST_PARTY: u8 = MOST_PARTIES as u8;
 
 // The record's first four bytes.
 fn put_head(o: &mut [u8], n: u8)
-    requires { ⌜ (n ≤ 16) × (4 ≤ length (now o)) ⌝ }
-    ensures { λ _. ⌜ now (o .exit) ≡ recordHead n ++ drop 4 (now (o .entry)) ⌝ }
+    requires { ⌜ (n ≤ mostParties) × (headLength ≤ length (now o)) ⌝ }
+    ensures { λ _. ⌜ now (o .exit) ≡ recordHead n ++ drop headLength (now (o .entry)) ⌝ }
 {
     let len = HEAD + EACH * (n as u16);
     o[0] = (len / 256 % 256) as u8;
@@ -48,8 +49,8 @@ fn put_head(o: &mut [u8], n: u8)
 
 // A party's seven bytes, at the start of what is lent.
 fn put_party(o: &mut [u8], p: Party)
-    requires { ⌜ 7 ≤ length (now o) ⌝ }
-    ensures { λ _. ⌜ now (o .exit) ≡ partyRecord p ++ drop 7 (now (o .entry)) ⌝ }
+    requires { ⌜ partyLength ≤ length (now o) ⌝ }
+    ensures { λ _. ⌜ now (o .exit) ≡ partyRecord p ++ drop partyLength (now (o .entry)) ⌝ }
 {
     let steps = p.steps;
     let decision = p.decision;
@@ -64,7 +65,7 @@ fn put_party(o: &mut [u8], p: Party)
 
 // The record of the first n parties; the bytes past it stay.
 fn put_whole(out: &mut [u8], n: u8, parties: [Party; MOST_PARTIES])
-    requires { ⌜ (n ≤ 16) × (recordLength n ≤ length (now out)) ⌝ }
+    requires { ⌜ (n ≤ mostParties) × (recordLength n ≤ length (now out)) ⌝ }
     ensures { λ _. ⌜ now (out .exit) ≡ recordBytes n parties ++ drop (recordLength n) (now (out .entry)) ⌝ }
 {
     put_head(out, n);
@@ -79,7 +80,7 @@ fn put_whole(out: &mut [u8], n: u8, parties: [Party; MOST_PARTIES])
 
 // Writes the record of the first n parties, where n is at most 16 and it fits; the bytes past it stay, and else all stay.
 pub fn put_record(out: &mut [u8], n: u8, parties: [Party; MOST_PARTIES])
-    ensures { λ _. ⌜ now (out .exit) ≡ cond (leb n 16 && leb (recordLength n) (length (now (out .entry))))
+    ensures { λ _. ⌜ now (out .exit) ≡ cond (leb n mostParties && leb (recordLength n) (length (now (out .entry))))
         (recordBytes n parties ++ drop (recordLength n) (now (out .entry)))
         (now (out .entry)) ⌝ }
 {

@@ -4,6 +4,7 @@ ghost use mathlib.Core.Bool.{_&&_, _||_, cond};
 ghost use Prim.Native.Nat.{_+_, _-_, _*_, _≤_, max};
 ghost use lib.ListN.{length};
 ghost use lib.Dec.{eqb};
+ghost use Rattle.sheet.specs.Sizes.{headerLength, rowLength, mostRows};
 ghost use Rattle.sheet.specs.Lists.{from, all, firstBad};
 ghost use Rattle.sheet.specs.Sets.{apart};
 ghost use Rattle.sheet.specs.Rows.{layoutOf, slots, rowAt, rowNumber, partiesOf};
@@ -103,7 +104,7 @@ fn is_beside(round: usize, i: usize, w: Row, j: usize, v: Row) -> bool
 
 // Party i's row w beside all rows of its round, of which the first is row `base`.
 fn alone_in_round(s: &[u8], base: usize, round: usize, i: usize, w: Row) -> bool
-    requires { ⌜ (base + round ≤ 135) × (8 + 14 * (base + round) ≤ length (now s)) ⌝ }
+    requires { ⌜ (base + round ≤ mostRows) × (headerLength + rowLength * (base + round) ≤ length (now s)) ⌝ }
     ensures { λ r. ⌜ r ≡ all (λ j. beside round i w j (rowAt (now (s .entry)) (base + j - 1))) (from 1 round) ⌝ }
 {
     let mut j = 1;

@@ -4,6 +4,8 @@ ghost use mathlib.Core.Bool.{cond};
 ghost use Prim.Native.Nat.{ℕ, _-_, _≤_, _<_};
 ghost use lib.ListN.{getD, set};
 ghost use lib.Dec.{T, eqb};
+ghost use Rattle.sheet.specs.Sizes.{mostParties, mostUnits};
+ghost use Rattle.state.specs.Sizes.{mostSteps};
 ghost use Rattle.sheet.specs.Sets.{inSet};
 ghost use Rattle.sheet.specs.Rows.{layoutOf, slot};
 ghost use Rattle.state.specs.Session.{cell};
@@ -20,7 +22,7 @@ use state::Status;
 
 // A party runs on, one own step later.
 fn go_to(p: Party, place: u8, round: u8, k: u8, candidate: u8) -> Party
-    requires { ⌜ p .steps ≤ 1000 ⌝ }
+    requires { ⌜ p .steps ≤ mostSteps ⌝ }
     ensures { λ r. ⌜ r ≡ counted (goes p place round k candidate) ⌝ }
 {
     Party {
@@ -36,7 +38,7 @@ fn go_to(p: Party, place: u8, round: u8, k: u8, candidate: u8) -> Party
 
 // A round is won: the next one, or the decision.
 fn win(n: u8, p: Party, round: u8, candidate: u8) -> Party
-    requires { ⌜ (p .steps ≤ 1000) × (n ≤ 16) ⌝ }
+    requires { ⌜ (p .steps ≤ mostSteps) × (n ≤ mostParties) ⌝ }
     ensures { λ r. ⌜ r ≡ counted (won n p round candidate) ⌝ }
 {
     if round < n {
@@ -48,7 +50,7 @@ fn win(n: u8, p: Party, round: u8, candidate: u8) -> Party
 
 // Next k, or after k = r - 1 the top wins.
 fn next_k(n: u8, p: Party) -> Party
-    requires { ⌜ (p .steps ≤ 1000) × (n ≤ 16) × (p .k ≤ 16) ⌝ }
+    requires { ⌜ (p .steps ≤ mostSteps) × (n ≤ mostParties) × (p .k ≤ mostParties) ⌝ }
     ensures { λ r. ⌜ r ≡ counted (nextK n p) ⌝ }
 {
     let k = p.k + 1;
@@ -62,7 +64,7 @@ fn next_k(n: u8, p: Party) -> Party
 
 // The lowers win: a lower goes on, the top fetches first.
 fn lowers_win(n: u8, i: u8, p: Party) -> Party
-    requires { ⌜ (p .steps ≤ 1000) × (n ≤ 16) ⌝ }
+    requires { ⌜ (p .steps ≤ mostSteps) × (n ≤ mostParties) ⌝ }
     ensures { λ r. ⌜ r ≡ counted (lowersWin n i p) ⌝ }
 {
     let round = p.round;
@@ -74,7 +76,7 @@ fn lowers_win(n: u8, i: u8, p: Party) -> Party
 }
 
 fn announce(n: u8, i: u8, p: Party) -> Party
-    requires { ⌜ p .steps ≤ 1000 ⌝ }
+    requires { ⌜ p .steps ≤ mostSteps ⌝ }
     ensures { λ r. ⌜ r ≡ counted (announced n i p) ⌝ }
 {
     if n == 1 {
@@ -87,7 +89,7 @@ fn announce(n: u8, i: u8, p: Party) -> Party
 }
 
 fn publish(published: &mut [u8; CELLS], i: u8, p: Party) -> Party
-    requires { ⌜ (p .steps ≤ 1000) × (p .round ≤ 16) × (i ≤ 16) ⌝ }
+    requires { ⌜ (p .steps ≤ mostSteps) × (p .round ≤ mostParties) × (i ≤ mostParties) ⌝ }
     ensures { λ r. ⌜ (r ≡ counted (afterPublish p)) × (now (published .exit) ≡ set (now (published .entry)) (cell (p .round) i) (p .candidate)) ⌝ }
 {
     let at = state::cell_of(p.round, i);
@@ -97,7 +99,7 @@ fn publish(published: &mut [u8; CELLS], i: u8, p: Party) -> Party
 
 // One mark in all units of a set.
 fn mark_set(marks: &mut [u8; MOST_UNITS], start: usize, mask: u64, mark: u8)
-    requires { ⌜ (start ≤ 65535) × ((u : ℕ) → T (inSet start mask u) → u < 1024) ⌝ }
+    requires { ⌜ (start ≤ 65535) × ((u : ℕ) → T (inSet start mask u) → u < mostUnits) ⌝ }
     ensures { λ _. ⌜ now (marks .exit) ≡ stamped (inSet start mask) mark 0 (now (marks .entry)) ⌝ }
 {
     let mut j: usize = 0;
@@ -135,7 +137,7 @@ fn write(sheet: &[u8], marks: &mut [u8; MOST_UNITS], i: u8, p: Party) -> Party
 }
 
 fn read_top(sheet: &[u8], marks: &[u8; MOST_UNITS], n: u8, i: u8, p: Party) -> Party
-    requires { ⌜ (ReadyAt (now sheet) i p) × (n ≤ 16) ⌝ }
+    requires { ⌜ (ReadyAt (now sheet) i p) × (n ≤ mostParties) ⌝ }
     ensures { λ r. ⌜ r ≡ counted (afterTop n i (markAt (now (marks .entry)) (layoutOf (now (sheet .entry)) .row (slot (p .round) (p .round)) .own)) p) ⌝ }
 {
     let round = p.round;
@@ -149,7 +151,7 @@ fn read_top(sheet: &[u8], marks: &[u8; MOST_UNITS], n: u8, i: u8, p: Party) -> P
 }
 
 fn read_own(sheet: &[u8], marks: &[u8; MOST_UNITS], n: u8, p: Party) -> Party
-    requires { ⌜ (ReadyAt (now sheet) (p .k) p) × (n ≤ 16) ⌝ }
+    requires { ⌜ (ReadyAt (now sheet) (p .k) p) × (n ≤ mostParties) ⌝ }
     ensures { λ r. ⌜ r ≡ counted (afterOwn n (markAt (now (marks .entry)) (layoutOf (now (sheet .entry)) .row (slot (p .round) (p .k)) .own)) p) ⌝ }
 {
     let round = p.round;
@@ -164,7 +166,7 @@ fn read_own(sheet: &[u8], marks: &[u8; MOST_UNITS], n: u8, p: Party) -> Party
 }
 
 fn read_pair(sheet: &[u8], marks: &[u8; MOST_UNITS], n: u8, i: u8, p: Party) -> Party
-    requires { ⌜ (ReadyAt (now sheet) (p .k) p) × (p .k < p .round) × (n ≤ 16) ⌝ }
+    requires { ⌜ (ReadyAt (now sheet) (p .k) p) × (p .k < p .round) × (n ≤ mostParties) ⌝ }
     ensures { λ r. ⌜ r ≡ counted (afterPair n i (markAt (now (marks .entry)) (layoutOf (now (sheet .entry)) .row (slot (p .round) (p .k)) .pair)) p) ⌝ }
 {
     let w = rows::row_of(sheet, p.round as usize, p.k as usize);
@@ -177,7 +179,7 @@ fn read_pair(sheet: &[u8], marks: &[u8; MOST_UNITS], n: u8, i: u8, p: Party) -> 
 }
 
 fn fetch(published: &[u8; CELLS], n: u8, p: Party) -> Party
-    requires { ⌜ (p .steps ≤ 1000) × (n ≤ 16) × (p .round ≤ 16) × (p .k ≤ 16) ⌝ }
+    requires { ⌜ (p .steps ≤ mostSteps) × (n ≤ mostParties) × (p .round ≤ mostParties) × (p .k ≤ mostParties) ⌝ }
     ensures { λ r. ⌜ r ≡ counted (afterFetch n (getD (now (published .entry)) (cell (p .round) (p .k)) 0) p) ⌝ }
 {
     let at = state::cell_of(p.round, p.k);
@@ -185,7 +187,7 @@ fn fetch(published: &[u8; CELLS], n: u8, p: Party) -> Party
 }
 
 fn decide(proposals: &[u32; MOST_PARTIES], p: Party) -> Party
-    requires { ⌜ (p .steps ≤ 1000) × (1 ≤ p .candidate) × (p .candidate ≤ 16) ⌝ }
+    requires { ⌜ (p .steps ≤ mostSteps) × (1 ≤ p .candidate) × (p .candidate ≤ mostParties) ⌝ }
     ensures { λ r. ⌜ r ≡ counted (decided (getD (now (proposals .entry)) (p .candidate - 1) 0) p) ⌝ }
 {
     let at = p.candidate as usize - 1;

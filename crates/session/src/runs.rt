@@ -3,6 +3,7 @@ ghost use mathlib.Core.Path.{_≡_};
 ghost use Prim.Native.Nat.{_≤_};
 ghost use lib.ListN.{length};
 ghost use lib.Dec.{T};
+ghost use Rattle.sheet.specs.Sizes.{mostParties};
 ghost use Rattle.sheet.specs.Rows.{partiesOf};
 ghost use Rattle.sheet.specs.Lists.{all, firstBad};
 ghost use Rattle.rules.specs.Words.{Rules6};
@@ -22,7 +23,7 @@ use state::opening;
 
 // Whether a schedule byte is a step or a stop of one of n parties, by its party alone: no branch on which of the two it is.
 fn byte_ok(n: u8, b: u8) -> bool
-    requires { ⌜ n ≤ 16 ⌝ }
+    requires { ⌜ n ≤ mostParties ⌝ }
     ensures { λ r. ⌜ r ≡ byteOk n b ⌝ }
 {
     let i = b % 128;
@@ -31,7 +32,7 @@ fn byte_ok(n: u8, b: u8) -> bool
 
 // Whether every byte is good: one pass with no early exit.
 fn schedule_ok(schedule: &[u8], n: u8) -> bool
-    requires { ⌜ n ≤ 16 ⌝ }
+    requires { ⌜ n ≤ mostParties ⌝ }
     ensures { λ r. ⌜ r ≡ all (byteOk n) (now (schedule .entry)) ⌝ }
 {
     let mut ok = true;
@@ -47,7 +48,7 @@ fn schedule_ok(schedule: &[u8], n: u8) -> bool
 
 // The first bad byte, counted from 1, or 0.
 fn first_bad_byte(schedule: &[u8], n: u8) -> usize
-    requires { ⌜ n ≤ 16 ⌝ }
+    requires { ⌜ n ≤ mostParties ⌝ }
     ensures { λ r. ⌜ r ≡ firstBad (byteOk n) 1 (now (schedule .entry)) ⌝ }
 {
     let mut j = 0;

@@ -2,6 +2,7 @@
 ghost use mathlib.Core.Path.{_≡_};
 ghost use Prim.Native.Nat.{_+_, _<_, _≤_};
 ghost use lib.ListN.{length, drop};
+ghost use Rattle.sheet.specs.Sizes.{rowLength};
 ghost use Rattle.sheet.specs.Rows.{slot, slotAfter, rowCount, sheetLength, rowFrom, taken, rowPlace, rowOf};
 use crate::bytes;
 use crate::sizes::HEADER_LENGTH;
@@ -89,7 +90,7 @@ pub fn sheet_length(n: u8) -> usize
 
 // The row that 14 bytes say.
 fn row_from(s: &[u8], at: usize) -> Row
-    requires { ⌜ at + 14 ≤ length (now s) ⌝ }
+    requires { ⌜ at + rowLength ≤ length (now s) ⌝ }
     ensures { λ r. ⌜ r ≡ rowFrom (drop at (now (s .entry))) ⌝ }
 {
     Row {

@@ -4,7 +4,9 @@ use mathlib.Core.Path.{_≡_}
 use mathlib.Core.List.{List}
 use mathlib.Core.Logic.{_⊎_, _↔_}
 use lib.ListN.{length, getD}
+use Rattle.sheet.specs.Sizes.{mostParties, mostUnits, mostSheet}
 use Rattle.rules.specs.Words.{Rules6}
+use Rattle.state.specs.Sizes.{cells}
 use Rattle.state.specs.Session.{carried, layout, noParty, partyOf, cell}
 use Rattle.state.specs.declared.kept.Party.{Party}
 use Rattle.state.specs.declared.kept.Session.{Session}
@@ -42,9 +44,9 @@ pub record WellFormed (s : Session) : Type 0 where
   pub published : (r k : ℕ) → 2 ≤ r → r ≤ layout s .parties → 1 ≤ k → k < r → getD (s .published) (cell r k) 0 ≤ layout s .parties
   pub parties : (i : ℕ) → 1 ≤ i → i ≤ layout s .parties → PartyRule (layout s .parties) (s .published) i (partyOf (s .parties) i)
   -- entries beyond the sheet's counts are zero
-  pub sheetPast : (j : ℕ) → length (carried s) ≤ j → j < 1898 → getD (s .sheet) j 0 ≡ 0
-  pub marksPast : (u : ℕ) → layout s .units ≤ u → u < 1024 → getD (s .marks) u 0 ≡ 0
+  pub sheetPast : (j : ℕ) → length (carried s) ≤ j → j < mostSheet → getD (s .sheet) j 0 ≡ 0
+  pub marksPast : (u : ℕ) → layout s .units ≤ u → u < mostUnits → getD (s .marks) u 0 ≡ 0
   pub publishedPast :
-      (j : ℕ) → j < 256 → ((r k : ℕ) → 2 ≤ r → r ≤ layout s .parties → 1 ≤ k → k < r → j ≡ cell r k → ⊥) → getD (s .published) j 0 ≡ 0
-  pub proposalsPast : (j : ℕ) → layout s .parties ≤ j → j < 16 → getD (s .proposals) j 0 ≡ 0
-  pub partiesPast : (i : ℕ) → layout s .parties < i → i ≤ 16 → partyOf (s .parties) i ≡ noParty
+      (j : ℕ) → j < cells → ((r k : ℕ) → 2 ≤ r → r ≤ layout s .parties → 1 ≤ k → k < r → j ≡ cell r k → ⊥) → getD (s .published) j 0 ≡ 0
+  pub proposalsPast : (j : ℕ) → layout s .parties ≤ j → j < mostParties → getD (s .proposals) j 0 ≡ 0
+  pub partiesPast : (i : ℕ) → layout s .parties < i → i ≤ mostParties → partyOf (s .parties) i ≡ noParty

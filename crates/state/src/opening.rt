@@ -3,6 +3,7 @@ ghost use mathlib.Core.Path.{_≡_};
 ghost use mathlib.Core.List.{_++_, map};
 ghost use Prim.Native.Nat.{_-_, _≤_, min};
 ghost use lib.ListN.{length, take, replicate};
+ghost use Rattle.sheet.specs.Sizes.{mostParties, mostSheet};
 ghost use Rattle.sheet.specs.Lists.{from};
 ghost use Rattle.answers.specs.Answers.{answerOf};
 ghost use Rattle.state.specs.Session.{freshParty, noParty, filled, freshSession};
@@ -24,8 +25,8 @@ pub struct Opened {
 }
 
 fn sheet_copy(sheet: &[u8]) -> [u8; MOST_SHEET]
-    requires { ⌜ length (now sheet) ≤ 1898 ⌝ }
-    ensures { λ r. ⌜ r ≡ filled 1898 (now (sheet .entry)) ⌝ }
+    requires { ⌜ length (now sheet) ≤ mostSheet ⌝ }
+    ensures { λ r. ⌜ r ≡ filled mostSheet (now (sheet .entry)) ⌝ }
 {
     let mut copy = [0u8; MOST_SHEET];
     let mut j = 0;
@@ -38,7 +39,7 @@ fn sheet_copy(sheet: &[u8]) -> [u8; MOST_SHEET]
 
 // As many as a session has entries for.
 fn at_most_16(count: usize) -> usize
-    ensures { λ r. ⌜ r ≡ min count 16 ⌝ }
+    ensures { λ r. ⌜ r ≡ min count mostParties ⌝ }
 {
     if count < MOST_PARTIES {
         count
@@ -49,7 +50,7 @@ fn at_most_16(count: usize) -> usize
 
 // The first 16 proposals; where there are fewer, zeros behind them.
 pub fn proposals_copy(proposals: &[u32]) -> [u32; MOST_PARTIES]
-    ensures { λ r. ⌜ r ≡ filled 16 (take 16 (now (proposals .entry))) ⌝ }
+    ensures { λ r. ⌜ r ≡ filled mostParties (take mostParties (now (proposals .entry))) ⌝ }
 {
     let count = at_most_16(proposals.len());
     let mut copy = [0u32; MOST_PARTIES];
@@ -63,7 +64,7 @@ pub fn proposals_copy(proposals: &[u32]) -> [u32; MOST_PARTIES]
 
 // Fresh parties 1 to n, at most 16, and unused entries behind them.
 pub fn fresh_parties(n: u8) -> [Party; MOST_PARTIES]
-    ensures { λ r. ⌜ r ≡ map freshParty (from 1 (min n 16)) ++ replicate (16 - n) noParty ⌝ }
+    ensures { λ r. ⌜ r ≡ map freshParty (from 1 (min n mostParties)) ++ replicate (mostParties - n) noParty ⌝ }
 {
     let count = at_most_16(n as usize);
     let none = Party::fresh(0);
@@ -77,7 +78,7 @@ pub fn fresh_parties(n: u8) -> [Party; MOST_PARTIES]
 }
 
 fn fresh_session(sheet: &[u8], proposals: &[u32], n: u8) -> Session
-    requires { ⌜ (length (now sheet) ≤ 1898) × (length (now proposals) ≤ 16) × (n ≤ 16) ⌝ }
+    requires { ⌜ (length (now sheet) ≤ mostSheet) × (length (now proposals) ≤ mostParties) × (n ≤ mostParties) ⌝ }
     ensures { λ r. ⌜ r ≡ freshSession (now (sheet .entry)) (now (proposals .entry)) n ⌝ }
 {
     let copy = sheet_copy(sheet);

@@ -4,6 +4,7 @@ ghost use mathlib.Core.Bool.{cond};
 ghost use Prim.Native.Nat.{_+_, _-_, _/_, _%_, _≤_, min};
 ghost use lib.ListN.{length, getD, take};
 ghost use lib.Dec.{leb, ltb, eqb};
+ghost use Rattle.sheet.specs.Sizes.{lengthAt, mostParties, mostSheet};
 ghost use Rattle.sheet.specs.Lists.{from, all, within};
 ghost use Rattle.sheet.specs.Bytes.{num};
 ghost use Rattle.rules.specs.Check.{checkAnswer};
@@ -29,7 +30,7 @@ use sheet::sizes::UNITS_LOW_AT;
 
 // How many bytes of the copy the carried sheet has.
 pub fn carried_length(sheet: &[u8; MOST_SHEET]) -> usize
-    ensures { λ r. ⌜ r ≡ min (num (now (sheet .entry)) 0 2) 1898 ⌝ }
+    ensures { λ r. ⌜ r ≡ min (num (now (sheet .entry)) lengthAt 2) mostSheet ⌝ }
 {
     let s: &[u8] = sheet;
     let field = bytes::two(s[LENGTH_AT], s[LENGTH_LOW_AT]) as usize;
@@ -95,7 +96,7 @@ fn marks_ok(marks: &[u8; MOST_UNITS], units: usize) -> bool
 }
 
 fn most_published(n: usize, j: usize) -> usize
-    ensures { λ r. ⌜ r ≡ cond (isLower n (j / 16 + 1) (j % 16 + 1)) n 0 ⌝ }
+    ensures { λ r. ⌜ r ≡ cond (isLower n (j / mostParties + 1) (j % mostParties + 1)) n 0 ⌝ }
 {
     let r = j / MOST_PARTIES + 1;
     let k = j % MOST_PARTIES + 1;
@@ -191,7 +192,7 @@ fn lower_ok(i: u8, p: Party) -> bool
 
 // Place 6 is the top's, after a witness that has published.
 fn top_ok(published: &[u8; CELLS], i: u8, p: Party) -> bool
-    requires { ⌜ (p .place ≡ 6 → (p .round ≤ 16) × (p .k ≤ 16)) ⌝ }
+    requires { ⌜ (p .place ≡ 6 → (p .round ≤ mostParties) × (p .k ≤ mostParties)) ⌝ }
     ensures { λ r. ⌜ r ≡ topOk (now (published .entry)) i p ⌝ }
 {
     if p.place != Place::FETCH {
@@ -256,7 +257,7 @@ fn ranges_ok(n: u8, p: Party) -> bool
 
 // Party i of n.
 fn party_ok(n: u8, published: &[u8; CELLS], i: u8, p: Party) -> bool
-    requires { ⌜ n ≤ 16 ⌝ }
+    requires { ⌜ n ≤ mostParties ⌝ }
     ensures { λ r. ⌜ r ≡ partyOk n (now (published .entry)) i p ⌝ }
 {
     ranges_ok(n, p)
@@ -281,7 +282,7 @@ fn unused_ok(p: Party) -> bool
 }
 
 fn entry_ok(n: u8, published: &[u8; CELLS], i: u8, p: Party) -> bool
-    requires { ⌜ n ≤ 16 ⌝ }
+    requires { ⌜ n ≤ mostParties ⌝ }
     ensures { λ r. ⌜ r ≡ cond (leb i n) (partyOk n (now (published .entry)) i p) (unusedOk p) ⌝ }
 {
     if i <= n {
@@ -294,7 +295,7 @@ fn entry_ok(n: u8, published: &[u8; CELLS], i: u8, p: Party) -> bool
 const LAST_PARTY: u8 = MOST_PARTIES as u8;
 
 fn parties_ok(n: u8, published: &[u8; CELLS], parties: [Party; MOST_PARTIES]) -> bool
-    requires { ⌜ n ≤ 16 ⌝ }
+    requires { ⌜ n ≤ mostParties ⌝ }
     ensures { λ r. ⌜ r ≡ partiesOk n (now (published .entry)) parties ⌝ }
 {
     let mut i: u8 = 1;
