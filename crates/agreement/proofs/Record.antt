@@ -1,12 +1,13 @@
 -- In the record each party's 7 bytes stand where they are read and its numbers fit them, so the record says the parties.
-use Prim.Native.Nat.{ℕ, zero, suc, _+_, _-_, _*_, _^_, _≤_, _<_}
+use Prim.Native.Nat.{ℕ, suc, _-_, _≤_, _<_}
 use mathlib.Core.Path.{_≡_, refl, sym, ap, _∙_, subst}
-use mathlib.Core.List.{List, [], _∷_, _++_, map}
+use mathlib.Core.List.{List, _∷_, _++_, map}
 use native.Mathlib.Nat.{add-zero}
 use native.Mathlib.Omega.{arith}
 use lib.Dec.{T}
-use lib.ListN.{length, getD, take, drop}
-use lib.Seq.{drop-append-add, getD-drop}
+use lib.ListN.{length, getD, take, drop, length-take}
+use lib.Seq.{drop-cons, getD-drop, getD-take}
+use Rattle.sheet.proofs.InTurn as in-turn
 use Rattle.sheet.specs.Rows.{partiesOf}
 use Rattle.sheet.specs.Lists.{flat, all}
 use Rattle.sheet.specs.Bytes.{num}
@@ -30,21 +31,6 @@ use Rattle.agreement.proofs.Readings.{Says, Reads}
 
 -- ---- what the record's bytes say
 
--- past the first k parties the bytes of the next one come first
-abbrev Next : ℕ → ℕ → List Party → List ℕ → Type 0
-Next k n ps rest =
-    (tail : List ℕ) × (drop (7 * k) (flat (map partyRecord (take n ps)) ++ rest) ≡ partyRecord (getD ps k noParty) ++ tail)
-
-next : (k n : ℕ) (ps : List Party) (rest : List ℕ) → k < n → k < length ps → Next k n ps rest
-next k zero ps rest l h = absurd (omega arith)
-next k (suc n) [] rest l h = absurd (omega arith)
-next zero (suc n) (p ∷ ps) rest l h = (flat (map partyRecord (take n ps)) ++ rest, refl)
-next (suc k) (suc n) (p ∷ ps) rest l h =
-    let later = next k n ps rest (omega arith) (omega arith) in
-    let more = flat (map partyRecord (take n ps)) ++ rest in
-    let place : 7 * suc k ≡ 7 + 7 * k = omega arith in
-    (later .0, ap (λ (j : ℕ). drop j (partyRecord p ++ more)) place ∙ drop-append-add (partyRecord p) more (7 * k) ∙ later .1)
-
 module _ (n : ℕ) (ps : List Party) (rest : List ℕ) (i : ℕ) (least : 1 ≤ i) (most : i ≤ n) (within : i ≤ length ps) where
   abbrev party : Party
   party = partyOf ps i
@@ -52,11 +38,17 @@ module _ (n : ℕ) (ps : List Party) (rest : List ℕ) (i : ℕ) (least : 1 ≤ 
   abbrev bytes : List ℕ
   bytes = recordBytes n ps ++ rest
 
-  after : Next (i - 1) n ps rest
-  after = next (i - 1) n ps rest (omega arith) (omega arith)
+  -- past the parties before it its bytes come first
+  tail : List ℕ
+  tail = flat (map partyRecord (drop (suc (i - 1)) (take n ps))) ++ rest
 
-  stands : drop (placeAfter (i - 1)) bytes ≡ partyRecord party ++ after .0
-  stands = drop-append-add (recordHead n) (flat (map partyRecord (take n ps)) ++ rest) (7 * (i - 1)) ∙ after .1
+  stands : drop (placeAfter (i - 1)) bytes ≡ partyRecord party ++ tail
+  unfolding tail
+  stands =
+      let seat = i - 1 in
+      let inside : seat < length (take n ps) = omega (arith, length-take n ps) in
+      let next = drop-cons (take n ps) seat noParty inside ∙ ap (λ (p : Party). p ∷ drop (suc seat) (take n ps)) (getD-take n ps seat noParty (omega arith)) in
+      in-turn.stands partyRecord 7 (λ _. refl) (recordHead n) (take n ps) seat next rest (placeAfter seat) refl
 
   says : Fits party → Says party (ofRecord bytes) i
   says f =

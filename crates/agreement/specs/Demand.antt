@@ -7,6 +7,7 @@ use Rattle.sheet.specs.Rows.{partiesOf}
 use Rattle.answers.specs.Answers.{done}
 use Rattle.rules.specs.Check.{checkAnswer}
 use Rattle.state.specs.Session.{partyOf}
+use Rattle.state.specs.Status as Status
 use Rattle.state.specs.Readings.{Readings}
 use Rattle.state.specs.declared.kept.Session.{Session}
 use Rattle.steps.specs.Moves.{Move, stepsBefore}
@@ -30,7 +31,7 @@ pub record Demand (n : ℕ) (proposals : List ℕ) (s : Session) : Type 0 where
   pub agreed : Agreed n proposals s holder
   -- 2. no party takes more own steps than its limit, and one that has taken them has decided
   pub most : (i : ℕ) → 1 ≤ i → i ≤ n → partyOf (s .parties) i .steps ≤ stepLimit n i
-  pub decides : (i : ℕ) → 1 ≤ i → i ≤ n → stepLimit n i ≤ partyOf (s .parties) i .steps → partyOf (s .parties) i .status ≡ 2
+  pub decides : (i : ℕ) → 1 ≤ i → i ≤ n → stepLimit n i ≤ partyOf (s .parties) i .steps → partyOf (s .parties) i .status ≡ Status.decided
 
 -- ---- of what is read of n parties after some moves, in which party i acted so often
 
@@ -39,16 +40,16 @@ pub record Demanded (n : ℕ) (proposal : ℕ → ℕ) (moves : List Move) (acts
   pub holder : ℕ
   pub holderLeast : 1 ≤ holder
   pub holderMost : holder ≤ n
-  pub agreed : (i : ℕ) → 1 ≤ i → i ≤ n → r .status i ≡ 2 → r .decision i ≡ proposal holder
-  pub announced : (i : ℕ) → 1 ≤ i → i ≤ n → r .status i ≡ 2 → 1 ≤ r .steps holder
+  pub agreed : (i : ℕ) → 1 ≤ i → i ≤ n → r .status i ≡ Status.decided → r .decision i ≡ proposal holder
+  pub announced : (i : ℕ) → 1 ≤ i → i ≤ n → r .status i ≡ Status.decided → 1 ≤ r .steps holder
   -- who has not decided has no decision
-  pub undecided : (i : ℕ) → 1 ≤ i → i ≤ n → (r .status i ≡ 2 → ⊥) → r .decision i ≡ 0
+  pub undecided : (i : ℕ) → 1 ≤ i → i ≤ n → (r .status i ≡ Status.decided → ⊥) → r .decision i ≡ 0
   -- 2. own steps are the acts; no party has more of them than its limit, and one that has them has decided
   pub ownSteps : (i : ℕ) → 1 ≤ i → i ≤ n → r .steps i ≡ acts i
   pub most : (i : ℕ) → 1 ≤ i → i ≤ n → r .steps i ≤ stepLimit n i
-  pub decides : (i : ℕ) → 1 ≤ i → i ≤ n → stepLimit n i ≤ r .steps i → r .status i ≡ 2
+  pub decides : (i : ℕ) → 1 ≤ i → i ≤ n → stepLimit n i ≤ r .steps i → r .status i ≡ Status.decided
   -- 3. and one that was given as many steps as its limit before any stop of its own has decided: a silent step takes nothing off
-  pub enough : (i : ℕ) → 1 ≤ i → i ≤ n → stepLimit n i ≤ stepsBefore i moves → r .status i ≡ 2
+  pub enough : (i : ℕ) → 1 ≤ i → i ≤ n → stepLimit n i ≤ stepsBefore i moves → r .status i ≡ Status.decided
 
 -- ---- of what is read and what is read later
 
@@ -57,8 +58,8 @@ pub record LastingRead (n : ℕ) (proposal : ℕ → ℕ) (r later : Readings) :
   pub holder : ℕ
   pub holderLeast : 1 ≤ holder
   pub holderMost : holder ≤ n
-  pub before : (i : ℕ) → 1 ≤ i → i ≤ n → r .status i ≡ 2 → r .decision i ≡ proposal holder
-  pub after : (i : ℕ) → 1 ≤ i → i ≤ n → later .status i ≡ 2 → later .decision i ≡ proposal holder
+  pub before : (i : ℕ) → 1 ≤ i → i ≤ n → r .status i ≡ Status.decided → r .decision i ≡ proposal holder
+  pub after : (i : ℕ) → 1 ≤ i → i ≤ n → later .status i ≡ Status.decided → later .decision i ≡ proposal holder
   -- who has decided has decided later too, with the same decision
-  pub stays : (i : ℕ) → 1 ≤ i → i ≤ n → r .status i ≡ 2 → later .status i ≡ 2
-  pub same : (i : ℕ) → 1 ≤ i → i ≤ n → r .status i ≡ 2 → later .decision i ≡ r .decision i
+  pub stays : (i : ℕ) → 1 ≤ i → i ≤ n → r .status i ≡ Status.decided → later .status i ≡ Status.decided
+  pub same : (i : ℕ) → 1 ≤ i → i ≤ n → r .status i ≡ Status.decided → later .decision i ≡ r .decision i

@@ -13,6 +13,7 @@ use Rattle.rules.specs.Check.{checkAnswer}
 use Rattle.builder.specs.Build.{builtSheet}
 use Rattle.builder.specs.Given.{Given}
 use Rattle.state.specs.Session.{freshSession}
+use Rattle.image.specs.Sizes.{sessionLength}
 use Rattle.image.specs.Image.{ofImage, Below}
 use Rattle.record.specs.Record.{recordLength, ofRecord}
 use Rattle.steps.specs.Moves.{Move, stepOf, stopOf, whose}
@@ -66,7 +67,7 @@ pub record OfHost (sheet proposals session : List ℕ) (calls : List Move) : Typ
   -- the opening is done
   pub opens : hostOpen sheet proposals (length session) ≡ done
   -- the bytes are still 3,418
-  pub length : length (leftBy sheet proposals session calls) ≡ 3418
+  pub length : length (leftBy sheet proposals session calls) ≡ sessionLength
   -- of each call the refusal number is 0 where it is of a party 1 to N, and 10 otherwise, so never 9
   pub numbers :
       map (λ w. w % 256) (wordsOf (openBytes sheet proposals session) calls) ≡ map (refusalOf (partiesOf sheet)) calls
@@ -121,7 +122,7 @@ OverHostRuns =
 -- ---- a built sheet is accepted, so all of this holds of it with proposals of 4 bytes each, and a session of 3,418
 
 pub record OfHostBuilt (kind bound n : ℕ) (proposals : List ℕ) : Type 0 where
-  pub calls : (session : List ℕ) → length session ≡ 3418 → (calls : List Move) → OfHost (builtSheet kind bound n) proposals session calls
+  pub calls : (session : List ℕ) → length session ≡ sessionLength → (calls : List Move) → OfHost (builtSheet kind bound n) proposals session calls
   pub run :
       (schedule out : List ℕ) → T (all (byteOk n) schedule) → length schedule ≤ lastIndex → recordLength n ≤ length out
       → OfHostRun (builtSheet kind bound n) proposals schedule out × LaterRun (builtSheet kind bound n) proposals schedule out

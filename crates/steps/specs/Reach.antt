@@ -7,6 +7,8 @@ use lib.ListN.{getD}
 use lib.Dec.{eqb}
 use Rattle.sheet.specs.Rows.{partiesOf}
 use Rattle.state.specs.Session.{freshSession, partyOf}
+use Rattle.state.specs.Status as Status
+use Rattle.state.specs.Place as At
 use Rattle.state.specs.declared.kept.Session.{Session}
 use Rattle.steps.specs.Step.{step, stop}
 use Rattle.steps.specs.Moves.{Move, stepOf, stopOf}
@@ -31,10 +33,10 @@ Reached sheet proposals s = Leads (partiesOf sheet) (freshSession sheet proposal
 pub record Agreed (n : ℕ) (proposals : List ℕ) (s : Session) (h : ℕ) : Type 0 where
   pub least : 1 ≤ h
   pub most : h ≤ n
-  pub candidate : (i : ℕ) → 1 ≤ i → i ≤ n → partyOf (s .parties) i .status ≡ 2 → partyOf (s .parties) i .candidate ≡ h
+  pub candidate : (i : ℕ) → 1 ≤ i → i ≤ n → partyOf (s .parties) i .status ≡ Status.decided → partyOf (s .parties) i .candidate ≡ h
   pub decision :
-      (i : ℕ) → 1 ≤ i → i ≤ n → partyOf (s .parties) i .status ≡ 2 → partyOf (s .parties) i .decision ≡ getD proposals (h - 1) 0
-  pub announced : (i : ℕ) → 1 ≤ i → i ≤ n → partyOf (s .parties) i .status ≡ 2 → partyOf (s .parties) h .place ≡ 0 → ⊥
+      (i : ℕ) → 1 ≤ i → i ≤ n → partyOf (s .parties) i .status ≡ Status.decided → partyOf (s .parties) i .decision ≡ getD proposals (h - 1) 0
+  pub announced : (i : ℕ) → 1 ≤ i → i ≤ n → partyOf (s .parties) i .status ≡ Status.decided → partyOf (s .parties) h .place ≡ At.announce → ⊥
 
 -- what was decided stays: from a session to one that comes later
 pub record Lasting (n : ℕ) (proposals : List ℕ) (s t : Session) : Type 0 where
@@ -43,9 +45,9 @@ pub record Lasting (n : ℕ) (proposals : List ℕ) (s t : Session) : Type 0 whe
   pub before : Agreed n proposals s holder
   pub after : Agreed n proposals t holder
   -- who has decided has decided later too, with the same decision
-  pub stays : (i : ℕ) → 1 ≤ i → i ≤ n → partyOf (s .parties) i .status ≡ 2 → partyOf (t .parties) i .status ≡ 2
+  pub stays : (i : ℕ) → 1 ≤ i → i ≤ n → partyOf (s .parties) i .status ≡ Status.decided → partyOf (t .parties) i .status ≡ Status.decided
   pub same :
-      (i : ℕ) → 1 ≤ i → i ≤ n → partyOf (s .parties) i .status ≡ 2 → partyOf (t .parties) i .decision ≡ partyOf (s .parties) i .decision
+      (i : ℕ) → 1 ≤ i → i ≤ n → partyOf (s .parties) i .status ≡ Status.decided → partyOf (t .parties) i .decision ≡ partyOf (s .parties) i .decision
 
 -- the most own steps of party i of n: (n + 1)² − 2 for party 1, (n + 1)² − i² + 1 for the others
 abbrev pub stepLimit : ℕ → ℕ → ℕ

@@ -5,6 +5,7 @@ use mathlib.Core.List.{List}
 use Rattle.sheet.specs.Rows.{slot, partiesOf}
 use Rattle.sheet.specs.Words.{IsSlot}
 use Rattle.rules.specs.Words.{Rules5}
+use Rattle.state.specs.Sizes.{mostSteps}
 use Rattle.state.specs.Words.{PartyRule}
 use Rattle.state.specs.declared.kept.Party.{Party}
 
@@ -12,7 +13,7 @@ use Rattle.state.specs.declared.kept.Party.{Party}
 pub record ReadyAt (sheet : List ℕ) (j : ℕ) (p : Party) : Type 0 where
   pub rules : Rules5 sheet
   pub row : IsSlot (partiesOf sheet) (slot (p .round) j)
-  pub steps : p .steps ≤ 1000
+  pub steps : p .steps ≤ mostSteps
 
 pub record Ready (sheet published : List ℕ) (i : ℕ) (p : Party) (n : ℕ) : Type 0 where
   pub rules : Rules5 sheet

@@ -6,6 +6,8 @@ use lib.ListN.{getD, set}
 use lib.Dec.{ltb, eqb}
 use Rattle.sheet.specs.Rows.{Layout, slot, writes}
 use Rattle.state.specs.Session.{layout, partyOf, cell}
+use Rattle.state.specs.Status as Status
+use Rattle.state.specs.Mark as Mark
 use Rattle.state.specs.declared.kept.Party.{Party}
 use Rattle.state.specs.declared.kept.Session.{Session}
 
@@ -43,7 +45,7 @@ placeNumber done = 8
 -- running, at a place, in a round, at a scan number, with a candidate
 abbrev pub goes : Party → ℕ → ℕ → ℕ → ℕ → Party
 goes p place r k c =
-    record { status = 1; place = place; round = r; k = k; candidate = c; steps = p .steps; decision = p .decision }
+    record { status = Status.running; place = place; round = r; k = k; candidate = c; steps = p .steps; decision = p .decision }
 
 -- round r is won, with candidate c: on to the next round, or after round n to 7
 unfoldable pub won : ℕ → Party → ℕ → ℕ → Party
@@ -109,7 +111,7 @@ afterFetch n candidate p = won n p (p .round) candidate
 -- 7. Read the candidate's proposal and decide it
 abbrev pub decided : ℕ → Party → Party
 decided proposal p =
-    record { status = 2; place = 8; round = 0; k = 0; candidate = p .candidate; steps = p .steps; decision = proposal }
+    record { status = Status.decided; place = 8; round = 0; k = 0; candidate = p .candidate; steps = p .steps; decision = proposal }
 
 -- ---- the two halves of an act: what it sees, and what it makes of the party from that alone
 
@@ -150,7 +152,7 @@ stamped f m u (x ∷ xs) = cond (f u) m x ∷ stamped f m (suc u) xs
 
 -- the row's set: higher for the top, lower for others
 abbrev pub written : Layout → ℕ → Party → List ℕ → List ℕ
-written l i p marks = stamped (writes (l .row (slot (p .round) i))) (cond (eqb i (p .round)) 2 1) 0 marks
+written l i p marks = stamped (writes (l .row (slot (p .round) i))) (cond (eqb i (p .round)) Mark.higher Mark.lower) 0 marks
 
 -- what an act makes of the marks: only place 2 writes
 unfoldable pub marksAfter : Layout → ℕ → Party → List ℕ → Place → List ℕ
@@ -190,7 +192,7 @@ placeActed s i = cond (isLive (partyOf (s .parties) i)) (partyOf (s .parties) i 
 abbrev pub stoppedParty : Party → Party
 stoppedParty p =
     record {
-      status = cond (eqb (p .status) 2) 2 3;
+      status = cond (eqb (p .status) Status.decided) Status.decided Status.stopped;
       place = p .place;
       round = p .round;
       k = p .k;

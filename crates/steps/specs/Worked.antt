@@ -3,6 +3,7 @@ use Prim.Native.Nat.{ℕ}
 use mathlib.Core.Path.{_≡_}
 use mathlib.Core.List.{List, [], _∷_, _++_}
 use lib.ListN.{take, replicate}
+use Rattle.sheet.specs.Sizes.{mostSheet}
 use Rattle.sheet.specs.Bytes.{bytesOf}
 use Rattle.answers.specs.Answers.{answer, done}
 use Rattle.builder.specs.Build.{builtSheet, buildAnswer}
@@ -71,7 +72,7 @@ abbrev pub Holds : Case → Type 0
 Holds (session b n schedule ends) =
     (runAnswer (builtSheet 1 b n) (take n (500 ∷ 600 ∷ 700 ∷ [])) schedule (recordLength n) ≡ done)
     × (runOut (builtSheet 1 b n) (take n (500 ∷ 600 ∷ 700 ∷ [])) schedule (replicate (recordLength n) 0) ≡ recordHead n ++ endBytes ends)
-Holds (builder kind bound n number) = buildAnswer kind bound n 1898 ≡ answer number 0
+Holds (builder kind bound n number) = buildAnswer kind bound n mostSheet ≡ answer number 0
 
 abbrev pub Every : List Case → Type 0
 Every [] = Unit
