@@ -36,7 +36,7 @@ module _ (sheet proposals : List ℕ) (o : Opens sheet proposals) {s : Session} 
   abbrev p : Party
   p = partyOf (s .parties) i
 
-  rule : PartyRule (layout s .parties) (s .published) i p
+  pub rule : PartyRule (layout s .parties) (s .published) i p
   rule = reached-well-formed sheet proposals (rules o) (o .count) R .parties i least (omega (arith, reached-parties sheet proposals (rules o) R))
 
   -- who has not decided has no decision

@@ -1,18 +1,21 @@
 -- Numbers that are each party's status, own steps and decision say of the parties what demand 3 says of the session.
 use Prim.Native.Nat.{ℕ, _≤_}
-use mathlib.Core.Path.{_≡_, refl, sym, _∙_, subst, subst⁻¹}
+use mathlib.Core.Path.{_≡_, refl, sym, ap, _∙_, subst, subst⁻¹}
+use native.Mathlib.Decide.{ℕ-discrete}
+use native.Mathlib.Omega.{arith}
 use mathlib.Core.List.{List}
 use Rattle.sheet.specs.Rows.{partiesOf}
 use Rattle.state.specs.Session.{partyOf}
 use Rattle.state.specs.Readings.{Readings, ofParties}
 use Rattle.state.specs.declared.kept.Party.{Party}
 use Rattle.state.specs.declared.kept.Session.{Session}
-use Rattle.steps.specs.Moves.{Move, stepsBefore}
+use Rattle.steps.specs.Moves.{Move}
 use Rattle.steps.specs.Reach.{Reached, Lasting, stepLimit}
+use Rattle.steps.proofs.Given.{Follows}
 use Rattle.agreement.specs.Demand.{Opens, proposalOf, Demand, Demanded, LastingRead}
 use Rattle.agreement.proofs.Demands as demands
 use Rattle.agreement.proofs.Demands.{rules}
-use Rattle.agreement.proofs.Parties.{has-begun, undecided}
+use Rattle.agreement.proofs.Parties.{has-begun, undecided, rule}
 
 -- what is read of party i is p
 pub record Says (p : Party) (r : Readings) (i : ℕ) : Type 0 where
@@ -35,11 +38,42 @@ module _ (sheet proposals : List ℕ) (o : Opens sheet proposals) {s : Session} 
   demand : Demand n proposals s
   demand = demands.demand sheet proposals o R
 
-  -- where the own steps are the acts, and the moves give what is enough
-  pub read : (moves : List Move) (acts : ℕ → ℕ) → ((i : ℕ) → 1 ≤ i → i ≤ n → partyOf (s .parties) i .steps ≡ acts i)
-      → ((i : ℕ) → 1 ≤ i → i ≤ n → stepLimit n i ≤ stepsBefore i moves → partyOf (s .parties) i .status ≡ 2)
+  -- ---- the status of a party that has not decided
+
+  module _ (i : ℕ) (l : 1 ≤ i) (m : i ≤ n) where
+    abbrev p : Party
+    p = partyOf (s .parties) i
+
+    -- one that is not stopped and has no own steps is idle; with some it is not
+    fresh-idle : (p .status ≡ 3 → ⊥) → p .steps ≡ 0 → p .status ≡ 0
+    fresh-idle up none = rule sheet proposals o R i l m .idle up .1 (by (ℕ-discrete (p .place) 0))
+      where
+        by : Dec (p .place ≡ 0) → p .place ≡ 0
+        by (yes e) = e
+        by (no d) = absurd (let one = has-begun sheet proposals (rules o) i l m R d in omega arith)
+
+    begun-running : (p .status ≡ 2 → ⊥) → (p .status ≡ 3 → ⊥) → 1 ≤ p .steps → p .status ≡ 1
+    begun-running undone up some = by (ℕ-discrete (p .status) 0) (ℕ-discrete (p .status) 2) (ℕ-discrete (p .status) 3)
+      where
+        by : Dec (p .status ≡ 0) → Dec (p .status ≡ 2) → Dec (p .status ≡ 3) → p .status ≡ 1
+        by (yes e) _ _ =
+            let place = rule sheet proposals o R i l m .idle up .0 e in
+            absurd (let none = rule sheet proposals o R i l m .noSteps place in omega arith)
+        by (no _) (yes e) _ = absurd (undone e)
+        by (no _) (no _) (yes e) = absurd (up e)
+        by (no a) (no b) (no c) = let most = rule sheet proposals o R i l m .status in omega arith
+
+    over-stopped : (p .status ≡ 2 → ⊥) → 2 ≤ p .status → p .status ≡ 3
+    over-stopped undone over = by (ℕ-discrete (p .status) 2)
+      where
+        by : Dec (p .status ≡ 2) → p .status ≡ 3
+        by (yes e) = absurd (undone e)
+        by (no d) = let most = rule sheet proposals o R i l m .status in omega arith
+
+  -- where the own steps are the acts, and the statuses follow the moves
+  pub read : (moves : List Move) (acts : ℕ → ℕ) → ((i : ℕ) → 1 ≤ i → i ≤ n → partyOf (s .parties) i .steps ≡ acts i) → Follows n s moves
       → Demanded n (proposalOf proposals) moves acts r
-  read moves acts counted enough =
+  read moves acts counted follows =
       let h = demand .holder in
       let a = demand .agreed .least in
       let b = demand .agreed .most in
@@ -56,23 +90,40 @@ module _ (sheet proposals : List ℕ) (o : Opens sheet proposals) {s : Session} 
         ownSteps = λ i l m. says i l m .steps ∙ counted i l m;
         most = λ i l m. subst⁻¹ (λ (k : ℕ). k ≤ stepLimit n i) (says i l m .steps) (demand .most i l m);
         decides = λ i l m g. says i l m .status ∙ demand .decides i l m (subst (λ (k : ℕ). stepLimit n i ≤ k) (says i l m .steps) g);
-        enough = λ i l m g. says i l m .status ∙ enough i l m g;
+        enough = λ i l m g. says i l m .status ∙ follows .enough i l m g;
+        stopped = λ i l m e t. says i l m .status ∙ over-stopped i l m (λ d. e (says i l m .status ∙ d)) (follows .over i l m t);
+        running = λ i l m e t g.
+            says i l m .status
+            ∙ begun-running i l m (λ d. e (says i l m .status ∙ d)) (λ d. t (follows .stopped i l m d)) (subst⁻¹ (λ (k : ℕ). 1 ≤ k) (counted i l m) g);
+        idle = λ i l m t g. says i l m .status ∙ fresh-idle i l m (λ d. t (follows .stopped i l m d)) (counted i l m ∙ g);
       }
 
 -- ---- later
 
-pub read-lasting : {n : ℕ} {proposals : List ℕ} {s t : Session} → Lasting n proposals s t → (r q : Readings) → Reads n s r → Reads n t q
-    → LastingRead n (proposalOf proposals) r q
-read-lasting L r q old new =
-    record {
-      holder = L .holder;
-      holderLeast = L .before .least;
-      holderMost = L .before .most;
-      before = λ i l m e. old i l m .decision ∙ L .before .decision i l m (sym (old i l m .status) ∙ e);
-      after = λ i l m e. new i l m .decision ∙ L .after .decision i l m (sym (new i l m .status) ∙ e);
-      stays = λ i l m e. new i l m .status ∙ L .stays i l m (sym (old i l m .status) ∙ e);
-      same = λ i l m e. new i l m .decision ∙ L .same i l m (sym (old i l m .status) ∙ e) ∙ sym (old i l m .decision);
-    }
+module _ (sheet proposals : List ℕ) (o : Opens sheet proposals) {s t : Session} (R : Reached sheet proposals s)
+    (L : Lasting (partiesOf sheet) proposals s t) where
+  pub read-lasting : (r q : Readings) → Reads (partiesOf sheet) s r → Reads (partiesOf sheet) t q → LastingRead (partiesOf sheet) (proposalOf proposals) r q
+  read-lasting r q old new =
+      let h = L .holder in
+      let a = L .before .least in
+      let b = L .before .most in
+      record {
+        holder = h;
+        holderLeast = a;
+        holderMost = b;
+        before = λ i l m e. old i l m .decision ∙ L .before .decision i l m (sym (old i l m .status) ∙ e);
+        after = λ i l m e. new i l m .decision ∙ L .after .decision i l m (sym (new i l m .status) ∙ e);
+        announced = λ i l m e.
+            let far = L .before .announced i l m (sym (old i l m .status) ∙ e) in
+            subst⁻¹ (λ (k : ℕ). 1 ≤ k) (old h a b .steps) (has-begun sheet proposals (rules o) h a b R far);
+        rests = λ i l m e.
+            let same = L .rests i l m (subst (λ (k : ℕ). 2 ≤ k) (old i l m .status) e) in
+            record {
+              status = new i l m .status ∙ ap (λ (p : Party). p .status) same ∙ sym (old i l m .status);
+              steps = new i l m .steps ∙ ap (λ (p : Party). p .steps) same ∙ sym (old i l m .steps);
+              decision = new i l m .decision ∙ ap (λ (p : Party). p .decision) same ∙ sym (old i l m .decision);
+            };
+      }
 
 -- ---- the same proposals by another function
 
@@ -90,6 +141,9 @@ module _ {n : ℕ} {f g : ℕ → ℕ} (same : (h : ℕ) → 1 ≤ h → h ≤ n
         most = D .most;
         decides = D .decides;
         enough = D .enough;
+        stopped = D .stopped;
+        running = D .running;
+        idle = D .idle;
       }
 
   pub lasting-by : {r q : Readings} → LastingRead n f r q → LastingRead n g r q
@@ -101,6 +155,6 @@ module _ {n : ℕ} {f g : ℕ → ℕ} (same : (h : ℕ) → 1 ≤ h → h ≤ n
         holderMost = L .holderMost;
         before = λ i l m e. L .before i l m e ∙ one;
         after = λ i l m e. L .after i l m e ∙ one;
-        stays = L .stays;
-        same = L .same;
+        announced = L .announced;
+        rests = L .rests;
       }

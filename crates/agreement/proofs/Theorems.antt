@@ -16,13 +16,12 @@ use Rattle.state.specs.Opening.{opened}
 use Rattle.state.specs.declared.kept.Session.{Session}
 use Rattle.state.proofs.Openings.{opens}
 use Rattle.record.specs.Record.{recordLength, ofRecord}
-use Rattle.steps.specs.Moves.{stepsBefore}
 use Rattle.steps.specs.Run.{byteOk, movesIn, ran, runOut}
 use Rattle.steps.specs.Trace.{called, acts, actsTold, valuesTold}
-use Rattle.steps.specs.Reach.{here, Reached, Lasting, stepLimit, movesOn}
+use Rattle.steps.specs.Reach.{here, Reached, Lasting, movesOn}
 use Rattle.steps.proofs.Agreement.{lasting}
-use Rattle.steps.proofs.Enough.{enough}
-use Rattle.steps.proofs.Given.{enough-given}
+use Rattle.steps.proofs.Enough.{schedule-follows}
+use Rattle.steps.proofs.Given.{Follows, way-follows}
 use Rattle.steps.proofs.Moves.{obeyed-leads}
 use Rattle.steps.proofs.Obeying.{obeyed-reached}
 use Rattle.steps.proofs.RunCalls.{run-calls, run-told, run-acts}
@@ -44,7 +43,7 @@ over-rules sheet proposals o s R =
           read sheet proposals o R (ofParties (s .parties)) (reads-itself (partiesOf sheet) s) (movesOn R)
           (acts (freshSession sheet proposals (partiesOf sheet)) (movesOn R))
           (λ i least most. way-acts sheet proposals (rules o) (o .count) i least most R)
-          (λ i least most l. enough-given sheet proposals (rules o) i least most R l);
+          (way-follows sheet proposals (rules o) R);
       later = λ t L. lasting sheet proposals (rules o) (o .count) R L;
     }
 
@@ -67,8 +66,8 @@ module _ (sheet proposals : List ℕ) (o : Opens sheet proposals) where
     counted : (i : ℕ) → 1 ≤ i → i ≤ n → partyOf (ran sheet proposals schedule .parties) i .steps ≡ acts fresh (movesIn schedule) i
     counted i least most = steps-acts sheet proposals (rules o) (o .count) i least most schedule good
 
-    given : (i : ℕ) → 1 ≤ i → i ≤ n → stepLimit n i ≤ stepsBefore i (movesIn schedule) → partyOf (ran sheet proposals schedule .parties) i .status ≡ 2
-    given i least most l = enough sheet proposals (rules o) i least most schedule good l
+    follows : Follows n (ran sheet proposals schedule) (movesIn schedule)
+    follows = schedule-follows sheet proposals (rules o) schedule good
 
     -- both parts of a longer schedule are good
     joined : (more : List ℕ) → T (all (byteOk n) more) → T (all (byteOk n) (schedule ++ more))
@@ -85,7 +84,7 @@ module _ (sheet proposals : List ℕ) (o : Opens sheet proposals) where
           demand = demand sheet proposals o reached;
           told =
               read sheet proposals o reached (ofParties (ran sheet proposals schedule .parties)) (reads-itself n (ran sheet proposals schedule))
-              (movesIn schedule) (acts fresh (movesIn schedule)) counted given;
+              (movesIn schedule) (acts fresh (movesIn schedule)) counted follows;
           later = longer;
         }
 
@@ -110,7 +109,7 @@ module _ (sheet proposals : List ℕ) (o : Opens sheet proposals) where
               ap (λ (s : Session). partyOf (s .parties) i .steps) (sym left)
               ∙ counted i least most
               ∙ run-acts sheet proposals (rules o) (o .count) schedule good i)
-              (λ i least most l. ap (λ (s : Session). partyOf (s .parties) i .status) (sym left) ∙ given i least most l);
+              (subst (λ (s : Session). Follows n s (movesIn schedule)) left follows);
           later = λ more ok.
               subst₂ (Lasting n proposals) left (run-calls sheet proposals (rules o) (o .count) (schedule ++ more) (joined more ok)) (longer more ok);
         }
@@ -122,9 +121,9 @@ module _ (sheet proposals : List ℕ) (o : Opens sheet proposals) where
           told =
               read sheet proposals o reached (ofRecord (runOut sheet proposals schedule out))
               (reads-record sheet proposals o words schedule good out room)
-              (movesIn schedule) (acts fresh (movesIn schedule)) counted given;
+              (movesIn schedule) (acts fresh (movesIn schedule)) counted follows;
           later = λ more ok other wide.
-              read-lasting (longer more ok) (ofRecord (runOut sheet proposals schedule out)) (ofRecord (runOut sheet proposals (schedule ++ more) other))
+              read-lasting sheet proposals o reached (longer more ok) (ofRecord (runOut sheet proposals schedule out)) (ofRecord (runOut sheet proposals (schedule ++ more) other))
               (reads-record sheet proposals o words schedule good out room)
               (reads-record sheet proposals o words (schedule ++ more) (joined more ok) other wide);
         }

@@ -3,6 +3,7 @@ use Prim.Native.Nat.{ℕ, _-_, _≤_}
 use mathlib.Core.Path.{_≡_}
 use mathlib.Core.List.{List}
 use lib.ListN.{length, getD}
+use lib.Dec.{T}
 use Rattle.sheet.specs.Rows.{partiesOf}
 use Rattle.answers.specs.Answers.{done}
 use Rattle.rules.specs.Check.{checkAnswer}
@@ -10,7 +11,7 @@ use Rattle.state.specs.Session.{partyOf}
 use Rattle.state.specs.Status as Status
 use Rattle.state.specs.Readings.{Readings}
 use Rattle.state.specs.declared.kept.Session.{Session}
-use Rattle.steps.specs.Moves.{Move, stepsBefore}
+use Rattle.steps.specs.Moves.{Move, stepsBefore, stopsIn}
 use Rattle.steps.specs.Reach.{Agreed, stepLimit}
 
 -- a sheet that the check accepts, and a proposal for each of its parties
@@ -50,8 +51,19 @@ pub record Demanded (n : ℕ) (proposal : ℕ → ℕ) (moves : List Move) (acts
   pub decides : (i : ℕ) → 1 ≤ i → i ≤ n → stepLimit n i ≤ r .steps i → r .status i ≡ Status.decided
   -- 3. and one that was given as many steps as its limit before any stop of its own has decided: a silent step takes nothing off
   pub enough : (i : ℕ) → 1 ≤ i → i ≤ n → stepLimit n i ≤ stepsBefore i moves → r .status i ≡ Status.decided
+  -- 4. who has not decided is stopped if a stop of its own came; else it is running if it has acted, and idle if not
+  pub stopped : (i : ℕ) → 1 ≤ i → i ≤ n → (r .status i ≡ Status.decided → ⊥) → T (stopsIn i moves) → r .status i ≡ Status.stopped
+  pub running :
+      (i : ℕ) → 1 ≤ i → i ≤ n → (r .status i ≡ Status.decided → ⊥) → (T (stopsIn i moves) → ⊥) → 1 ≤ acts i → r .status i ≡ Status.running
+  pub idle : (i : ℕ) → 1 ≤ i → i ≤ n → (T (stopsIn i moves) → ⊥) → acts i ≡ 0 → r .status i ≡ Status.idle
 
 -- ---- of what is read and what is read later
+
+-- the same is read of party i
+pub record SameRead (r later : Readings) (i : ℕ) : Type 0 where
+  pub status : later .status i ≡ r .status i
+  pub steps : later .steps i ≡ r .steps i
+  pub decision : later .decision i ≡ r .decision i
 
 pub record LastingRead (n : ℕ) (proposal : ℕ → ℕ) (r later : Readings) : Type 0 where
   -- the party whose proposal is decided is the same one at both moments
@@ -60,6 +72,6 @@ pub record LastingRead (n : ℕ) (proposal : ℕ → ℕ) (r later : Readings) :
   pub holderMost : holder ≤ n
   pub before : (i : ℕ) → 1 ≤ i → i ≤ n → r .status i ≡ Status.decided → r .decision i ≡ proposal holder
   pub after : (i : ℕ) → 1 ≤ i → i ≤ n → later .status i ≡ Status.decided → later .decision i ≡ proposal holder
-  -- who has decided has decided later too, with the same decision
-  pub stays : (i : ℕ) → 1 ≤ i → i ≤ n → r .status i ≡ Status.decided → later .status i ≡ Status.decided
-  pub same : (i : ℕ) → 1 ≤ i → i ≤ n → r .status i ≡ Status.decided → later .decision i ≡ r .decision i
+  pub announced : (i : ℕ) → 1 ≤ i → i ≤ n → r .status i ≡ Status.decided → 1 ≤ r .steps holder
+  -- who has decided or was stopped is later read as before
+  pub rests : (i : ℕ) → 1 ≤ i → i ≤ n → Status.decided ≤ r .status i → SameRead r later i

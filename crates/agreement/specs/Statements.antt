@@ -45,7 +45,7 @@ pub record OfSchedule (sheet proposals schedule : List ℕ) : Type 0 where
       (more : List ℕ) → T (all (byteOk (partiesOf sheet)) more)
       → Lasting (partiesOf sheet) proposals (ran sheet proposals schedule) (ran sheet proposals (schedule ++ more))
 
--- ---- over the calls: any sequence of public step and stop calls on an opened session
+-- ---- over the calls: any sequence of public step and stop calls for parties 1 to N on an opened session; what any other call tells and leaves is said in `CallSays`
 
 pub record OfCalls (sheet proposals schedule : List ℕ) : Type 0 where
   -- the opening is done
@@ -57,7 +57,7 @@ pub record OfCalls (sheet proposals schedule : List ℕ) : Type 0 where
   pub told :
       Demanded (partiesOf sheet) (proposalOf proposals) (movesIn schedule)
       (λ i. actsTold i (movesIn schedule) (valuesTold (opened sheet proposals) schedule)) (ofParties (called (opened sheet proposals) schedule .parties))
-  -- whatever calls follow
+  -- whatever such calls follow
   pub later :
       (more : List ℕ) → T (all (byteOk (partiesOf sheet)) more)
       → Lasting (partiesOf sheet) proposals (called (opened sheet proposals) schedule) (called (opened sheet proposals) (schedule ++ more))

@@ -1,8 +1,8 @@
 -- A call that is of no party changes nothing and counts for none, so calls do what those among them do that are of parties: by cases of each.
 use Prim.Native.Nat.{ℕ, suc, _≤_}
-use mathlib.Core.Path.{_≡_, refl, ap}
+use mathlib.Core.Path.{_≡_, refl, ap, subst, subst⁻¹}
 use mathlib.Core.List.{List, [], _∷_, _++_}
-use mathlib.Core.Bool.{Bool, true, false, cond}
+use mathlib.Core.Bool.{Bool, true, false, _||_, cond}
 use native.Mathlib.Omega.{arith}
 use borrow.Author.Tests.{ne-eqb}
 use lib.Dec.{T, eqb}
@@ -11,8 +11,9 @@ use Rattle.sheet.specs.Lists.{within, keep}
 use Rattle.sheet.proofs.Folds.{held, failed}
 use Rattle.state.specs.declared.kept.Session.{Session}
 use Rattle.state.proofs.Joins.{within-words}
-use Rattle.steps.specs.Moves.{Move, stepOf, stopOf, whose, moved, movedBy, stepsBefore}
-use Rattle.steps.specs.Reach.{Reached}
+use Rattle.steps.specs.Moves.{Move, stepOf, stopOf, whose, moved, movedBy, stepsBefore, stopsIn}
+use Rattle.steps.specs.Reach.{Reached, stepLimit}
+use Rattle.steps.proofs.Given.{Follows}
 use Rattle.steps.proofs.Moves.{Ofs, none, more, move-leads}
 
 abbrev pub isOfParty : ℕ → Move → Bool
@@ -65,7 +66,7 @@ module _ (n i : ℕ) (least : 1 ≤ i) (most : i ≤ n) where
   another j e = ne-eqb j i (λ same. failed (within 1 n j) e (within-words 1 n j .says .1 (omega arith, omega arith)))
 
   -- the steps before any stop of its own are the same
-  pub steps-same : (cs : List Move) → stepsBefore i cs ≡ stepsBefore i (partyCalls n cs)
+  steps-same : (cs : List Move) → stepsBefore i cs ≡ stepsBefore i (partyCalls n cs)
   steps-same [] = refl
   steps-same (stepOf j ∷ cs) = by (within 1 n j) refl (steps-same cs)
     where
@@ -79,3 +80,27 @@ module _ (n i : ℕ) (least : 1 ≤ i) (most : i ≤ n) where
           → stepsBefore i (stopOf j ∷ cs) ≡ stepsBefore i (cond w (stopOf j ∷ partyCalls n cs) (partyCalls n cs))
       by true e later = ap (λ (r : ℕ). cond (eqb j i) 0 r) later
       by false e later = rw (another j e) later
+
+  -- and so is whether there is such a stop
+  stops-same : (cs : List Move) → stopsIn i cs ≡ stopsIn i (partyCalls n cs)
+  stops-same [] = refl
+  stops-same (stepOf j ∷ cs) = by (within 1 n j) (stops-same cs)
+    where
+      by : (w : Bool) → stopsIn i cs ≡ stopsIn i (partyCalls n cs) → stopsIn i cs ≡ stopsIn i (cond w (stepOf j ∷ partyCalls n cs) (partyCalls n cs))
+      by true later = later
+      by false later = later
+  stops-same (stopOf j ∷ cs) = by (within 1 n j) refl (stops-same cs)
+    where
+      by : (w : Bool) → within 1 n j ≡ w → stopsIn i cs ≡ stopsIn i (partyCalls n cs)
+          → stopsIn i (stopOf j ∷ cs) ≡ stopsIn i (cond w (stopOf j ∷ partyCalls n cs) (partyCalls n cs))
+      by true e later = ap (λ (b : Bool). eqb j i || b) later
+      by false e later = rw (another j e) later
+
+-- so what follows from the calls of parties follows from all
+pub calls-follow : {n : ℕ} {s : Session} {cs : List Move} → Follows n s (partyCalls n cs) → Follows n s cs
+calls-follow {n} {s} {cs} f =
+    record {
+      enough = λ i l m g. f .enough i l m (subst (λ (k : ℕ). stepLimit n i ≤ k) (steps-same n i l m cs) g);
+      over = λ i l m t. f .over i l m (subst T (stops-same n i l m cs) t);
+      stopped = λ i l m e. subst⁻¹ T (stops-same n i l m cs) (f .stopped i l m e);
+    }

@@ -19,7 +19,7 @@ module _ (s : Session) (z : Sized s) (i : ℕ) (least : 1 ≤ i) (most : i ≤ 1
   abbrev bytes : List ℕ
   bytes = sessionBytes s
 
-  party-at : partyFrom (drop (partyPlace i) bytes) ≡ partyOf (s .parties) i
+  pub party-at : partyFrom (drop (partyPlace i) bytes) ≡ partyOf (s .parties) i
   party-at =
       let read : ℕ → Party = λ j. partyFrom (drop (11 * j) (drop 3242 bytes)) in
       ap partyFrom (sym (drop-drop (11 * (i - 1)) 3242 bytes))

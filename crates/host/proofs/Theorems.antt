@@ -6,7 +6,7 @@ use mathlib.Core.Bool.{cond}
 use native.Mathlib.Omega.{arith}
 use borrow.Author.Tests.{eq-eqb}
 use lib.Dec.{T, eqb}
-use lib.ListN.{length, getD}
+use lib.ListN.{length, getD, drop}
 use Rattle.sheet.specs.Rows.{partiesOf}
 use Rattle.sheet.specs.Lists.{all}
 use Rattle.sheet.proofs.Folds.{and-right, all-append}
@@ -16,16 +16,16 @@ use Rattle.builder.specs.Build.{builtSheet}
 use Rattle.builder.proofs.Theorems.{built-says}
 use Rattle.state.specs.Session.{freshSession, partyOf}
 use Rattle.state.specs.declared.kept.Session.{Session}
-use Rattle.image.specs.Image.{sessionBytes, ofImage, Below, Sized}
+use Rattle.image.specs.Image.{sessionBytes, partyFrom, partyPlace, ofImage, Below, Sized}
 use Rattle.image.proofs.Inverse.{length-session}
 use Rattle.record.specs.Record.{recordLength, ofRecord}
-use Rattle.steps.specs.Moves.{Move, movedBy, stepsBefore}
+use Rattle.steps.specs.Moves.{Move, movedBy}
 use Rattle.steps.specs.Run.{byteOk, movesIn, runAnswer, runOut}
 use Rattle.steps.specs.Trace.{acts, actsTold}
-use Rattle.steps.specs.Reach.{stepLimit, Reached, Lasting, here, movesOn}
+use Rattle.steps.specs.Reach.{Reached, Lasting, here}
 use Rattle.steps.proofs.Agreement.{lasting}
-use Rattle.steps.proofs.Given.{enough-given}
-use Rattle.steps.proofs.Moves.{moves-lead, moves-on, moved-append}
+use Rattle.steps.proofs.Given.{Follows, moved-follows}
+use Rattle.steps.proofs.Moves.{moves-lead, moved-append}
 use Rattle.steps.proofs.Tally.{moves-acts}
 use Rattle.agreement.specs.Demand.{Opens, proposalOf, Demanded, LastingRead}
 use Rattle.agreement.specs.Statements.{OfRecord, Words}
@@ -37,9 +37,9 @@ use Rattle.host.specs.Calls.{proposalsFor, hostOpen, openBytes, lastInde
 use Rattle.host.specs.Demand.{proposalIn, afterAll, wordsOf, valuesIn, leftBy, OfHost, OverHostCalls, OfHostRun, Runs, LaterRun, OverHostRuns, OverHostBuilt}
 use Rattle.host.proofs.Fitting.{reached-sized}
 use Rattle.host.proofs.Heard.{unheard}
-use Rattle.host.proofs.PartyCalls.{partyCalls, all-of-parties, parties-append, steps-same}
+use Rattle.host.proofs.PartyCalls.{partyCalls, all-of-parties, parties-append, calls-follow}
 use Rattle.host.proofs.Encoded.{calls-leave, calls-number, calls-acts}
-use Rattle.host.proofs.Reading.{says}
+use Rattle.host.proofs.Reading.{party-at, says}
 use Rattle.host.proofs.Openings.{Passed, passed, open-bytes, opens, proposals-in, words, built-below, built-opens}
 
 -- ---- calls
@@ -94,18 +94,18 @@ module _ (sheet proposals session : List ℕ) (sheetLow : Below 256 sheet) (prop
     shown : Reads n s (ofImage bytes)
     shown i least most = subst⁻¹ (λ (b : List ℕ). Says (partyOf (s .parties) i) (ofImage b) i) left (says s sized i least (omega (arith, few)))
 
+    -- the bytes say each party whole
+    whole : (i : ℕ) → 1 ≤ i → i ≤ n → partyFrom (drop (partyPlace i) bytes) ≡ partyOf (s .parties) i
+    whole i least most = ap (λ (b : List ℕ). partyFrom (drop (partyPlace i) b)) left ∙ party-at s sized i least (omega (arith, few))
+
     counted : (i : ℕ) → 1 ≤ i → i ≤ n → partyOf (s .parties) i .steps ≡ actsTold i calls (valuesIn (wordsOf (openBytes sheet proposals session) calls))
     counted i least most =
         moves-acts sheet numbers (rules o) (o .count) i least most (all-of-parties n calls)
         ∙ sym (calls-acts sheet numbers o sheetLow wide i least most here calls)
         ∙ sym (fresh (λ b. actsTold i calls (valuesIn (wordsOf b calls))))
 
-    given : (i : ℕ) → 1 ≤ i → i ≤ n → stepLimit n i ≤ stepsBefore i calls → partyOf (s .parties) i .status ≡ 2
-    unfolding movesOn R
-    given i least most l =
-        let moves = moves-on {s = start} {t = start} here (all-of-parties n calls) in
-        enough-given sheet numbers (rules o) i least most R
-        (subst⁻¹ (λ (k : ℕ). stepLimit n i ≤ k) (ap (stepsBefore i) moves ∙ sym (steps-same n i least most calls)) l)
+    follows : Follows n s calls
+    follows = calls-follow (moved-follows sheet numbers (rules o) (all-of-parties n calls))
 
   of-calls : (calls : List Move) → OfHost sheet proposals session calls
   of-calls calls =
@@ -118,10 +118,14 @@ module _ (sheet proposals session : List ℕ) (sheetLow : Below 256 sheet) (prop
             (read sheet numbers o (R calls) (ofImage (bytes calls)) (shown calls) calls
             (λ i. actsTold i calls (valuesIn (wordsOf (openBytes sheet proposals session) calls)))
             (counted calls)
-            (given calls));
+            (follows calls));
         later = λ more.
             lasting-by each
-            (read-lasting (longer more) (ofImage (bytes calls)) (ofImage (bytes (calls ++ more))) (shown calls) (shown (calls ++ more)));
+            (read-lasting sheet numbers o (R calls) (longer more) (ofImage (bytes calls)) (ofImage (bytes (calls ++ more))) (shown calls) (shown (calls ++ more)));
+        rests = λ more i least most over.
+            whole (calls ++ more) i least most
+            ∙ longer more .rests i least most (subst (λ (k : ℕ). 2 ≤ k) (shown calls i least most .status) over)
+            ∙ sym (whole calls i least most);
       }
     where
       longer : (more : List Move) → Lasting n numbers (s calls) (s (calls ++ more))

@@ -3,7 +3,7 @@ use Prim.Native.Nat.{ℕ, _-_, _*_, _/_, _%_, _^_, _≤_}
 use mathlib.Core.Path.{_≡_}
 use mathlib.Core.List.{List, [], _∷_, _++_, map}
 use mathlib.Core.Bool.{cond}
-use lib.ListN.{length}
+use lib.ListN.{length, drop}
 use lib.Dec.{T}
 use Rattle.sheet.specs.Rows.{partiesOf}
 use Rattle.sheet.specs.Lists.{within, all}
@@ -13,8 +13,9 @@ use Rattle.rules.specs.Check.{checkAnswer}
 use Rattle.builder.specs.Build.{builtSheet}
 use Rattle.builder.specs.Given.{Given}
 use Rattle.state.specs.Session.{freshSession}
+use Rattle.state.specs.Status as Status
 use Rattle.image.specs.Sizes.{sessionLength}
-use Rattle.image.specs.Image.{ofImage, Below}
+use Rattle.image.specs.Image.{partyFrom, partyPlace, ofImage, Below}
 use Rattle.record.specs.Record.{recordLength, ofRecord}
 use Rattle.steps.specs.Moves.{Move, stepOf, stopOf, whose}
 use Rattle.steps.specs.Run.{byteOk, movesIn}
@@ -80,6 +81,11 @@ pub record OfHost (sheet proposals session : List ℕ) (calls : List Move) : Typ
       (more : List Move)
       → LastingRead (partiesOf sheet) (proposalIn proposals) (ofImage (leftBy sheet proposals session calls))
       (ofImage (leftBy sheet proposals session (calls ++ more)))
+  -- and what the 11 bytes of a party that has decided or was stopped say stays whole, its candidate with it
+  pub rests :
+      (more : List Move) (i : ℕ) → 1 ≤ i → i ≤ partiesOf sheet → Status.decided ≤ ofImage (leftBy sheet proposals session calls) .status i
+      → partyFrom (drop (partyPlace i) (leftBy sheet proposals session (calls ++ more)))
+      ≡ partyFrom (drop (partyPlace i) (leftBy sheet proposals session calls))
 
 -- every opening that is done, with sheet and proposals of bytes, and every list of calls
 abbrev pub OverHostCalls : Type 0

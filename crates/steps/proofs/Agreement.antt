@@ -1,6 +1,6 @@
 -- Who has decided has the holder of the last round as candidate, and there is one: so all decide one party's proposal, and it has announced.
 use Prim.Native.Nat.{ℕ, zero, suc, _-_, _≤_}
-use mathlib.Core.Path.{_≡_, refl, sym, _∙_, ap, subst}
+use mathlib.Core.Path.{_≡_, refl, sym, _∙_, ap, subst, subst⁻¹}
 use mathlib.Core.List.{List}
 use mathlib.Core.Logic.{_≢_, _⊎_, inl, inr}
 use native.Mathlib.Omega.{arith}
@@ -12,12 +12,13 @@ use Rattle.state.specs.Session.{filled, layout, partyOf}
 use Rattle.state.specs.declared.kept.Party.{Party}
 use Rattle.state.specs.declared.kept.Session.{Session}
 use Rattle.state.proofs.Filled.{filled-front}
-use Rattle.steps.specs.Step.{placeOf}
+use Rattle.steps.specs.Step.{placeOf, step, stop}
 use Rattle.steps.specs.Reach.{Agreed, Lasting}
 use Rattle.steps.proofs.Holder.{Announced, Holder, holder-one, holder-least}
 use Rattle.steps.proofs.Invariant.{holder-valid}
 use Rattle.steps.proofs.Seen.{standing, standsAt, view}
-use Rattle.steps.proofs.Turns.{step-decided, stop-decided}
+use Rattle.steps.proofs.Turns.{step-none, step-other, stop-other}
+use Rattle.steps.proofs.Obeying.{stop-over}
 use Rattle.steps.proofs.Kept.{Kept}
 use Rattle.steps.proofs.Reached.{Leads, here, by-step, by-stop, Reached, reached-kept, reached-parties}
 
@@ -102,16 +103,27 @@ leads-on R here = R
 leads-on R (by-step i least most S) = by-step i least most (leads-on R S)
 leads-on R (by-stop i least most S) = by-stop i least most (leads-on R S)
 
--- a party that has decided never changes
-pub decided-stays : {n : ℕ} {s t : Session} → Leads n s t → (i : ℕ) → 1 ≤ i → partyOf (s .parties) i .status ≡ 2
+-- a party that has decided or was stopped never changes
+pub over-stays : {n : ℕ} {s t : Session} → Leads n s t → (i : ℕ) → 1 ≤ i → 2 ≤ partyOf (s .parties) i .status → partyOf (s .parties) i .status ≤ 3
     → partyOf (t .parties) i ≡ partyOf (s .parties) i
-decided-stays here i l e = refl
-decided-stays (by-step {t} j a b R) i l e =
-    let same = decided-stays R i l e in
-    step-decided t j a i l (ap (λ (x : Party). x .status) same ∙ e) ∙ same
-decided-stays (by-stop {t} j a b R) i l e =
-    let same = decided-stays R i l e in
-    stop-decided t j a i l (ap (λ (x : Party). x .status) same ∙ e) ∙ same
+over-stays here i l a b = refl
+over-stays {s = s} (by-step {t} j x y R) i l a b = by (ℕ-discrete i j) (over-stays R i l a b)
+  where
+    by : Dec (i ≡ j) → partyOf (t .parties) i ≡ partyOf (s .parties) i → partyOf (step t j .parties) i ≡ partyOf (s .parties) i
+    by (yes d) same =
+        let over : 2 ≤ partyOf (t .parties) i .status = subst⁻¹ (λ (p : Party). 2 ≤ p .status) same a in
+        ap (λ (u : Session). partyOf (u .parties) i) (step-none t j x (subst (λ (k : ℕ). 2 ≤ partyOf (t .parties) k .status) d over)) ∙ same
+    by (no d) same = step-other t j x i l d ∙ same
+over-stays {s = s} (by-stop {t} j x y R) i l a b = by (ℕ-discrete i j) (over-stays R i l a b)
+  where
+    by : Dec (i ≡ j) → partyOf (t .parties) i ≡ partyOf (s .parties) i → partyOf (stop t j .parties) i ≡ partyOf (s .parties) i
+    by (yes d) same =
+        let over : 2 ≤ partyOf (t .parties) i .status = subst⁻¹ (λ (p : Party). 2 ≤ p .status) same a in
+        let few : partyOf (t .parties) i .status ≤ 3 = subst⁻¹ (λ (p : Party). p .status ≤ 3) same b in
+        ap (λ (u : Session). partyOf (u .parties) i)
+        (stop-over t j (subst (λ (k : ℕ). 2 ≤ partyOf (t .parties) k .status) d over) (subst (λ (k : ℕ). partyOf (t .parties) k .status ≤ 3) d few))
+        ∙ same
+    by (no d) same = stop-other t j x i l d ∙ same
 
 -- ---- of every session that is reached
 
@@ -141,13 +153,12 @@ module _ (sheet proposals : List ℕ) (rules : Rules6 sheet) (count : length pro
             record {
               least = A .least;
               most = A .most;
-              candidate = λ i l m e. sym (ap (λ (p : Party). p .candidate) (kept i l e)) ∙ A .candidate i l m (decided i l e);
-              decision = λ i l m e. sym (ap (λ (p : Party). p .decision) (kept i l e)) ∙ A .decision i l m (decided i l e);
+              candidate = λ i l m e. sym (ap (λ (p : Party). p .candidate) (kept i l m e)) ∙ A .candidate i l m (decided i l m e);
+              decision = λ i l m e. sym (ap (λ (p : Party). p .decision) (kept i l m e)) ∙ A .decision i l m (decided i l m e);
               announced = λ i l m e. subst (λ (k : ℕ). partyOf (s .parties) k .place ≡ 0 → ⊥) (one i l m e) (B .announced i l m e);
             };
         after = A;
-        stays = λ i l m e. decided i l e;
-        same = λ i l m e. ap (λ (p : Party). p .decision) (kept i l e);
+        rests = λ i l m a. over-stays L i l a (few i l m);
       }
     where
       h : ℕ
@@ -159,12 +170,15 @@ module _ (sheet proposals : List ℕ) (rules : Rules6 sheet) (count : length pro
       B : Agreed parties proposals s (agreement R .0)
       B = agreement R .1
 
-      kept : (i : ℕ) → 1 ≤ i → partyOf (s .parties) i .status ≡ 2 → partyOf (t .parties) i ≡ partyOf (s .parties) i
-      kept i l e = decided-stays L i l e
+      few : (i : ℕ) → 1 ≤ i → i ≤ parties → partyOf (s .parties) i .status ≤ 3
+      few i l m = reached-kept sheet proposals rules R .orderly i l (omega (arith, reached-parties sheet proposals rules R)) .status
 
-      decided : (i : ℕ) → 1 ≤ i → partyOf (s .parties) i .status ≡ 2 → partyOf (t .parties) i .status ≡ 2
-      decided i l e = ap (λ (p : Party). p .status) (kept i l e) ∙ e
+      kept : (i : ℕ) → 1 ≤ i → i ≤ parties → partyOf (s .parties) i .status ≡ 2 → partyOf (t .parties) i ≡ partyOf (s .parties) i
+      kept i l m e = over-stays L i l (omega arith) (few i l m)
+
+      decided : (i : ℕ) → 1 ≤ i → i ≤ parties → partyOf (s .parties) i .status ≡ 2 → partyOf (t .parties) i .status ≡ 2
+      decided i l m e = ap (λ (p : Party). p .status) (kept i l m e) ∙ e
 
       one : (i : ℕ) → 1 ≤ i → i ≤ parties → partyOf (s .parties) i .status ≡ 2 → agreement R .0 ≡ h
       one i l m e =
-          sym (B .candidate i l m e) ∙ sym (ap (λ (p : Party). p .candidate) (kept i l e)) ∙ A .candidate i l m (decided i l e)
+          sym (B .candidate i l m e) ∙ sym (ap (λ (p : Party). p .candidate) (kept i l m e)) ∙ A .candidate i l m (decided i l m e)

@@ -1,28 +1,29 @@
--- Until a stop of its own each step that a party is given is an own step of it while it is live, so with as many as its limit it has decided.
+-- Until a stop of its own each step that a party is given is an own step of it while it is live, so with as many as its limit it has decided; only such a stop stops it.
 use Prim.Native.Nat.{ℕ, zero, suc, _+_, _≤_, _<_}
-use mathlib.Core.Path.{_≡_, refl, sym, _∙_, ap, subst}
+use mathlib.Core.Path.{_≡_, refl, sym, _∙_, ap, subst, subst⁻¹}
 use mathlib.Core.List.{List, [], _∷_, _++_, append-assoc}
 use mathlib.Core.Logic.{_≢_, _⊎_, inl, inr, ⊎-elim}
-use mathlib.Core.Bool.{Bool, true, false, cond}
+use mathlib.Core.Bool.{Bool, true, false, _||_, cond, or-assoc, or-false}
 use native.Mathlib.Omega.{arith}
 use native.Mathlib.Decide.{ℕ-discrete}
 use borrow.Author.Tests.{eq-eqb, ne-eqb}
-use lib.Dec.{eqb}
+use lib.Dec.{T, eqb, eqb→eq}
 use lib.ListN.{length}
 use Rattle.sheet.specs.Rows.{partiesOf}
 use Rattle.rules.specs.Words.{Rules6}
-use Rattle.sheet.proofs.Folds.{lt-or-le}
-use Rattle.state.specs.Session.{layout, partyOf}
+use Rattle.sheet.proofs.Folds.{or-left, or-right, or-cases, held, lt-or-le}
+use Rattle.state.specs.Session.{freshSession, layout, partyOf}
 use Rattle.state.specs.declared.kept.Party.{Party}
 use Rattle.state.specs.declared.kept.Session.{Session}
 use Rattle.state.proofs.Filled.{fresh-party}
 use Rattle.steps.specs.Step.{step, stop, stoppedParty}
-use Rattle.steps.specs.Moves.{Move, stepOf, stopOf, stepsBefore}
+use Rattle.steps.specs.Moves.{Move, stepOf, stopOf, movedBy, stepsBefore, stopsIn}
 use Rattle.steps.specs.Reach.{stepLimit, movesOn}
 use Rattle.steps.proofs.Landing.{party-set}
-use Rattle.steps.proofs.Turns.{step-none, step-other, step-decided, stop-other, stop-decided}
+use Rattle.steps.proofs.Turns.{step-none, step-other, stop-other, stop-decided, stop-ends}
 use Rattle.steps.proofs.Changes.{step-live, step-status}
 use Rattle.steps.proofs.Reached.{here, by-step, by-stop, Reached, reached-kept, reached-parties}
+use Rattle.steps.proofs.Moves.{Ofs, moves-lead, moves-on}
 use Rattle.steps.proofs.StepLimits.{reached-decides}
 
 module _ (j : ℕ) where
@@ -58,20 +59,30 @@ module _ (j : ℕ) where
       by true y z l = omega arith
       by false y z l = l
 
-  -- past a stop of its own no move counts
-  abbrev Closed : List Move → Type 0
-  Closed ms = (xs : List Move) → stepsBefore j (ms ++ xs) ≡ stepsBefore j ms
+  -- ---- a stop of its own
 
-  closed-on : (ms ys : List Move) → Closed ms → Closed (ms ++ ys)
-  closed-on ms ys c xs = ap (stepsBefore j) (append-assoc ms ys xs) ∙ c (ys ++ xs) ∙ sym (c ys)
+  -- past one no move counts
+  in-closed : (ms : List Move) → T (stopsIn j ms) → (xs : List Move) → stepsBefore j (ms ++ xs) ≡ stepsBefore j ms
+  in-closed [] t xs = absurd t
+  in-closed (stepOf i ∷ ms) t xs = ap (λ (r : ℕ). cond (eqb i j) (suc r) r) (in-closed ms t xs)
+  in-closed (stopOf i ∷ ms) t xs = by (eqb i j) t (λ u. in-closed ms u xs)
+    where
+      by : (b : Bool) → T (b || stopsIn j ms) → (T (stopsIn j ms) → stepsBefore j (ms ++ xs) ≡ stepsBefore j ms)
+          → cond b 0 (stepsBefore j (ms ++ xs)) ≡ cond b 0 (stepsBefore j ms)
+      by true u later = refl
+      by false u later = later u
 
-  stop-ends : (ms xs : List Move) → stepsBefore j (ms ++ (stopOf j ∷ xs)) ≡ stepsBefore j (ms ++ (stopOf j ∷ []))
-  stop-ends [] xs = rw (eq-eqb j j refl)
-  stop-ends (stepOf i ∷ ms) xs = ap (λ (r : ℕ). cond (eqb i j) (suc r) r) (stop-ends ms xs)
-  stop-ends (stopOf i ∷ ms) xs = ap (λ (r : ℕ). cond (eqb i j) 0 r) (stop-ends ms xs)
+  in-append : (ms xs : List Move) → stopsIn j (ms ++ xs) ≡ (stopsIn j ms || stopsIn j xs)
+  in-append [] xs = refl
+  in-append (stepOf i ∷ ms) xs = in-append ms xs
+  in-append (stopOf i ∷ ms) xs = ap (λ (b : Bool). eqb i j || b) (in-append ms xs) ∙ sym (or-assoc (eqb i j) (stopsIn j ms) (stopsIn j xs))
 
-  stop-closes : (ms : List Move) → Closed (ms ++ (stopOf j ∷ []))
-  stop-closes ms xs = ap (stepsBefore j) (append-assoc ms (stopOf j ∷ []) xs) ∙ stop-ends ms xs
+  in-front : (ms xs : List Move) → T (stopsIn j ms) → T (stopsIn j (ms ++ xs))
+  in-front ms xs t = subst⁻¹ T (in-append ms xs) (or-left (stopsIn j ms) (stopsIn j xs) t)
+
+  in-last : (ms : List Move) → T (stopsIn j (ms ++ (stopOf j ∷ [])))
+  in-last ms =
+      subst⁻¹ T (in-append ms (stopOf j ∷ [])) (or-right (stopsIn j ms) (eqb j j || false) (or-left (eqb j j) false (held (eqb j j) (eq-eqb j j refl))))
 
 -- ---- along a way
 
@@ -89,10 +100,10 @@ module _ (sheet proposals : List ℕ) (rules : Rules6 sheet) (j : ℕ) (least : 
   seated R = let few = rules .before .before .before .header .partiesMost in let size = reached-kept sheet proposals rules R .size in omega arith
 
   -- who is stopped had a stop
-  stopped-closed : {s : Session} (R : Reached sheet proposals s) → statusOf s ≡ 3 → Closed j (movesOn R)
+  stopped-in : {s : Session} (R : Reached sheet proposals s) → statusOf s ≡ 3 → T (stopsIn j (movesOn R))
   unfolding movesOn
-  stopped-closed here e = absurd (omega (arith, ap (λ (p : Party). p .status) (fresh-party n j least most)))
-  stopped-closed (by-step {t} i a b R) e = closed-on j (movesOn R) (stepOf i ∷ []) (stopped-closed R (was (ℕ-discrete j i)))
+  stopped-in here e = absurd (omega (arith, ap (λ (p : Party). p .status) (fresh-party n j least most)))
+  stopped-in (by-step {t} i a b R) e = in-front j (movesOn R) (stepOf i ∷ []) (stopped-in R (was (ℕ-discrete j i)))
     where
       was : Dec (j ≡ i) → statusOf t ≡ 3
       was (yes d) =
@@ -102,12 +113,35 @@ module _ (sheet proposals : List ℕ) (rules : Rules6 sheet) (j : ℕ) (least : 
           (λ over. sym (ap statusOf (step-none t j least over)) ∙ own)
           (lt-or-le (statusOf t) 2)
       was (no d) = sym (ap (λ (p : Party). p .status) (step-other t i a j least d)) ∙ e
-  stopped-closed (by-stop {t} i a b R) e = by (ℕ-discrete j i) (λ three. stopped-closed R three)
+  stopped-in (by-stop {t} i a b R) e = by (ℕ-discrete j i) (λ three. stopped-in R three)
     where
-      by : Dec (j ≡ i) → (statusOf t ≡ 3 → Closed j (movesOn R)) → Closed j (movesOn R ++ (stopOf i ∷ []))
-      by (yes d) before = subst (λ (k : ℕ). Closed j (movesOn R ++ (stopOf k ∷ []))) d (stop-closes j (movesOn R))
-      by (no d) before =
-          closed-on j (movesOn R) (stopOf i ∷ []) (before (sym (ap (λ (p : Party). p .status) (stop-other t i a j least d)) ∙ e))
+      by : Dec (j ≡ i) → (statusOf t ≡ 3 → T (stopsIn j (movesOn R))) → T (stopsIn j (movesOn R ++ (stopOf i ∷ [])))
+      by (yes d) before = subst (λ (k : ℕ). T (stopsIn j (movesOn R ++ (stopOf k ∷ [])))) d (in-last j (movesOn R))
+      by (no d) before = in-front j (movesOn R) (stopOf i ∷ []) (before (sym (ap (λ (p : Party). p .status) (stop-other t i a j least d)) ∙ e))
+
+  -- and who had one is not live
+  in-over : {s : Session} (R : Reached sheet proposals s) → T (stopsIn j (movesOn R)) → 2 ≤ statusOf s
+  unfolding movesOn
+  in-over here u = absurd u
+  in-over (by-step {t} i a b R) u = by (ℕ-discrete j i) (in-over R (front (or-cases (stopsIn j (movesOn R)) false (subst T (in-append j (movesOn R) (stepOf i ∷ [])) u))))
+    where
+      front : T (stopsIn j (movesOn R)) ⊎ ⊥ → T (stopsIn j (movesOn R))
+      front (inl x) = x
+      front (inr x) = absurd x
+
+      by : Dec (j ≡ i) → 2 ≤ statusOf t → 2 ≤ statusOf (step t i)
+      by (yes d) over = subst (λ (k : ℕ). 2 ≤ statusOf (step t k)) d (subst⁻¹ (λ (s : Session). 2 ≤ statusOf s) (step-none t j least over) over)
+      by (no d) over = subst⁻¹ (λ (p : Party). 2 ≤ p .status) (step-other t i a j least d) over
+  in-over (by-stop {t} i a b R) u =
+      by (ℕ-discrete j i) (λ d x. in-over R (front d (or-cases (stopsIn j (movesOn R)) (eqb i j || false) (subst T (in-append j (movesOn R) (stopOf i ∷ [])) x)))) u
+    where
+      front : j ≢ i → T (stopsIn j (movesOn R)) ⊎ T (eqb i j || false) → T (stopsIn j (movesOn R))
+      front d (inl x) = x
+      front d (inr x) = absurd (d (sym (eqb→eq i j (subst T (or-false (eqb i j)) x))))
+
+      by : Dec (j ≡ i) → (j ≢ i → T (stopsIn j (movesOn R ++ (stopOf i ∷ []))) → 2 ≤ statusOf t) → T (stopsIn j (movesOn R ++ (stopOf i ∷ []))) → 2 ≤ statusOf (stop t i)
+      by (yes d) before x = subst (λ (k : ℕ). 2 ≤ statusOf (stop t k)) d (stop-ends t j least (seated R))
+      by (no d) before x = subst⁻¹ (λ (p : Party). 2 ≤ p .status) (stop-other t i a j least d) (before d x)
 
   -- decided, or as many own steps as steps were given before a stop
   Taken : {s : Session} → Reached sheet proposals s → Type 0
@@ -161,7 +195,7 @@ module _ (sheet proposals : List ℕ) (rules : Rules6 sheet) (j : ℕ) (least : 
                 let three : statusOf t ≡ 3 = omega (arith, reached-kept sheet proposals rules R .orderly j least inside .status) in
                 ⊎-elim
                 (λ e. absurd (d e))
-                (λ m. inr (omega (arith, stopped-closed R three (stepOf j ∷ []), ap stepsOf same)))
+                (λ m. inr (omega (arith, in-closed j (movesOn R) (stopped-in R three) (stepOf j ∷ []), ap stepsOf same)))
                 before
 
     own-stop : statusOf (stop t j) ≡ 2 ⊎ (stepsBefore j (movesOn R ++ (stopOf j ∷ [])) ≤ stepsOf (stop t j))
@@ -188,7 +222,32 @@ module _ (sheet proposals : List ℕ) (rules : Rules6 sheet) (j : ℕ) (least : 
   given-taken (by-step i a b R) = after-step R i a b (given-taken R) (ℕ-discrete j i)
   given-taken (by-stop i a b R) = after-stop R i a b (given-taken R) (ℕ-discrete j i)
 
-  -- a party that was given as many steps as its limit before any stop of its own has decided
-  pub enough-given : {s : Session} (R : Reached sheet proposals s) → stepLimit n j ≤ stepsBefore j (movesOn R) → partyOf (s .parties) j .status ≡ 2
+  enough-given : {s : Session} (R : Reached sheet proposals s) → stepLimit n j ≤ stepsBefore j (movesOn R) → statusOf s ≡ 2
   unfolding Taken
   enough-given R l = ⊎-elim (λ e. e) (λ m. reached-decides sheet proposals rules R j least most (omega arith)) (given-taken R)
+
+-- ---- what moves make of the statuses of n parties
+
+pub record Follows (n : ℕ) (s : Session) (moves : List Move) : Type 0 where
+  -- a party that was given as many steps as its limit before any stop of its own has decided
+  pub enough : (i : ℕ) → 1 ≤ i → i ≤ n → stepLimit n i ≤ stepsBefore i moves → partyOf (s .parties) i .status ≡ 2
+  -- a party with a stop of its own is not live, and one that is stopped had one
+  pub over : (i : ℕ) → 1 ≤ i → i ≤ n → T (stopsIn i moves) → 2 ≤ partyOf (s .parties) i .status
+  pub stopped : (i : ℕ) → 1 ≤ i → i ≤ n → partyOf (s .parties) i .status ≡ 3 → T (stopsIn i moves)
+
+pub way-follows : (sheet proposals : List ℕ) → Rules6 sheet → {s : Session} (R : Reached sheet proposals s) → Follows (partiesOf sheet) s (movesOn R)
+way-follows sheet proposals rules R =
+    record {
+      enough = λ i l m. enough-given sheet proposals rules i l m R;
+      over = λ i l m. in-over sheet proposals rules i l m R;
+      stopped = λ i l m. stopped-in sheet proposals rules i l m R;
+    }
+
+-- of moves from the fresh session
+pub moved-follows : (sheet proposals : List ℕ) → Rules6 sheet → {ms : List Move} → Ofs (partiesOf sheet) ms
+    → Follows (partiesOf sheet) (movedBy (freshSession sheet proposals (partiesOf sheet)) ms) ms
+unfolding movesOn
+moved-follows sheet proposals rules {ms} os =
+    let start = freshSession sheet proposals (partiesOf sheet) in
+    let R : Reached sheet proposals (movedBy start ms) = moves-lead here os in
+    subst (Follows (partiesOf sheet) (movedBy start ms)) (moves-on {s = start} {t = start} here os) (way-follows sheet proposals rules R)

@@ -1,7 +1,7 @@
--- Steps and stops one after the other, and how many steps a party is given before any stop of its own.
+-- Steps and stops one after the other, how many steps a party is given before any stop of its own, and whether there is one.
 use Prim.Native.Nat.{ℕ, suc}
 use mathlib.Core.List.{List, [], _∷_}
-use mathlib.Core.Bool.{cond}
+use mathlib.Core.Bool.{Bool, false, _||_, cond}
 use lib.Dec.{eqb}
 use Rattle.state.specs.declared.kept.Session.{Session}
 use Rattle.steps.specs.Step.{step, stop}
@@ -31,3 +31,9 @@ abbrev pub stepsBefore : ℕ → List Move → ℕ
 stepsBefore i [] = 0
 stepsBefore i (stepOf j ∷ ms) = let r = stepsBefore i ms in cond (eqb j i) (suc r) r
 stepsBefore i (stopOf j ∷ ms) = let r = stepsBefore i ms in cond (eqb j i) 0 r
+
+-- a stop of party i is among them
+abbrev pub stopsIn : ℕ → List Move → Bool
+stopsIn i [] = false
+stopsIn i (stepOf j ∷ ms) = stopsIn i ms
+stopsIn i (stopOf j ∷ ms) = eqb j i || stopsIn i ms

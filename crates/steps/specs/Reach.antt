@@ -44,10 +44,8 @@ pub record Lasting (n : ℕ) (proposals : List ℕ) (s t : Session) : Type 0 whe
   pub holder : ℕ
   pub before : Agreed n proposals s holder
   pub after : Agreed n proposals t holder
-  -- who has decided has decided later too, with the same decision
-  pub stays : (i : ℕ) → 1 ≤ i → i ≤ n → partyOf (s .parties) i .status ≡ Status.decided → partyOf (t .parties) i .status ≡ Status.decided
-  pub same :
-      (i : ℕ) → 1 ≤ i → i ≤ n → partyOf (s .parties) i .status ≡ Status.decided → partyOf (t .parties) i .decision ≡ partyOf (s .parties) i .decision
+  -- who has decided or was stopped is later what it was, in every entry
+  pub rests : (i : ℕ) → 1 ≤ i → i ≤ n → Status.decided ≤ partyOf (s .parties) i .status → partyOf (t .parties) i ≡ partyOf (s .parties) i
 
 -- the most own steps of party i of n: (n + 1)² − 2 for party 1, (n + 1)² − i² + 1 for the others
 abbrev pub stepLimit : ℕ → ℕ → ℕ
