@@ -10,7 +10,7 @@ use borrow.Author.Tests.{not-false}
 use lib.Dec.{ltb, eqb, T}
 use lib.ListN.{length, getD, take, set}
 use lib.Seq.{length-take-le}
-use Rattle.sheet.specs.Lists.{from, firstBad, within}
+use Rattle.sheet.specs.Lists.{firstBad, within}
 use Rattle.sheet.specs.Rows.{layoutOf, slot, slots, sheetLength, partiesOf}
 use Rattle.answers.specs.Answers.{Answer, answer, done}
 use Rattle.rules.specs.Check.{numbersOk, headerOk, lengthOk, checkAnswer}
@@ -30,9 +30,10 @@ use Rattle.state.proofs.Joins.{within-words}
 use Rattle.state.proofs.FormWords.{well-formed-says}
 use Rattle.record.specs.Record.{recordLength}
 use Rattle.steps.specs.Step.{isLive, stoppedParty, stop, placeActed}
-use Rattle.steps.specs.Calls.{Told, unlessRefused, stepTold, stopTold, countOf, liveNumber, liveTold}
+use Rattle.steps.specs.Calls.{Told, unlessRefused, stepTold, stopTold, liveNumber, liveTold}
 use Rattle.steps.specs.Run.{byteOk, runAnswer}
 use Rattle.steps.proofs.Refusals.{parties-few}
+use Rattle.steps.proofs.CallSays.{count-few}
 use Rattle.host.specs.Word.{word}
 use Rattle.image.specs.Image.{sessionOf}
 use Rattle.host.specs.Calls.{unlessUnopened, proposalsFor, onSession, badAt, hostOpen}
@@ -210,13 +211,6 @@ stop-fits s i =
     at [] k q d l h = h
     at (x ∷ ps) zero q d l h = l
     at (x ∷ ps) (suc k) q d l h = at ps k q d l h
-
--- a count over N numbers is at most N
-count-few : (f : ℕ → Bool) (a n : ℕ) → countOf f (from a n) ≤ n
-count-few f a zero = omega arith
-count-few f a (suc n) =
-    let rest = count-few f (suc a) n in
-    chosen (λ (k : ℕ). k ≤ suc n) (f a) (λ _. omega arith) (λ _. omega arith)
 
 pub live-fits : (s : Session) → ToldFits (liveTold s)
 live-fits s =

@@ -20,6 +20,7 @@ pub mod Simulation
 pub mod Orderly
 pub mod Kept
 pub mod Turns
+pub mod CallSays
 pub mod InForm
 pub mod Reached
 pub mod Agreement

@@ -40,7 +40,7 @@ module _ (s : Session) (i : ℕ) {w : Bool} (formed : w ≡ wellFormed s) (n : n
 -- ---- the answer, by the two tests
 
 module _ (w b : Bool) (value : ℕ) where
-  abbrev Answer : Told
+  abbrev pub Answer : Told
   Answer = cond w (cond b (told 0 value) (told 10 0)) (told 9 0)
 
   pub told-9 : w ≡ false → told 9 0 ≡ Answer

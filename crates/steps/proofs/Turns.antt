@@ -50,14 +50,10 @@ module _ (s : Session) (i : ℕ) (least : 1 ≤ i) where
   unfolding stop
   stop-other j l n = party-kept (s .parties) i j (stoppedParty p) least l n
 
-  -- who is stopped is not live
-  pub stop-ends : i ≤ length (s .parties) → 2 ≤ partyOf (stop s i .parties) i .status
+  -- and makes of the party itself what it says
+  pub stop-own : i ≤ length (s .parties) → partyOf (stop s i .parties) i ≡ stoppedParty p
   unfolding stop
-  stop-ends h = omega (arith, ap (λ (x : Party). x .status) (party-set (s .parties) i (stoppedParty p) least h), high (eqb (p .status) 2))
-    where
-      high : (b : Bool) → 2 ≤ cond b 2 3
-      high true = omega arith
-      high false = omega arith
+  stop-own h = party-set (s .parties) i (stoppedParty p) least h
 
   decided-same : p .status ≡ 2 → stoppedParty p ≡ p
   decided-same e =

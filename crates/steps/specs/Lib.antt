@@ -2,6 +2,7 @@
 pub mod Step
 pub mod Moves
 pub mod Calls
+pub mod CallSays
 pub mod Run
 pub mod Trace
 pub mod Worked
