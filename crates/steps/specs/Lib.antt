@@ -3,6 +3,7 @@ pub mod Step
 pub mod Moves
 pub mod Calls
 pub mod Run
+pub mod RunSays
 pub mod Trace
 pub mod Worked
 pub mod Ready
