@@ -31,7 +31,7 @@ one-of : (b : Bool) (x y : Answer) → x .number ≤ 6 → y .number ≤ 6 → c
 one-of true x y l h = l
 one-of false x y l h = h
 
-check-most : (s : List ℕ) → checkAnswer s .number ≤ 6
+pub check-most : (s : List ℕ) → checkAnswer s .number ≤ 6
 check-most s =
     one-of (ltb (length s) 8) _ _ (omega arith)
     (one-of (not (eqb (getD s 2 0) 1)) _ _ (omega arith)
@@ -128,6 +128,11 @@ module _ (sheet proposals schedule out : List ℕ) where
       second : Rules6 sheet → Says said
       second r = ⊎-elim (λ c. third (r, c)) (λ c. put (at-7 r c) (r, c)) (decide (eq-words (length proposals) n))
 
+  -- number 0 is given where the run is done only
+  pub run-tells : said .number ≡ 0 → Obeyable sheet proposals schedule × (recordLength n ≤ length out)
+  unfolding Told Says
+  run-tells z = subst (λ (m : ℕ). Told m (said .position)) z told
+
   pub run-says : RunSays sheet proposals schedule out
   unfolding Told Says
   run-says =
@@ -138,11 +143,8 @@ module _ (sheet proposals schedule out : List ℕ) where
         eight = λ k. (tell, λ (o, f). at-8 o k f);
         eleven = (tell, λ (g, short). at-11 g short);
         output = λ e. sym (out-written sheet proposals schedule out (sym e));
-        kept = λ refused. rw (ne-eqb (said .number) 0 (λ z. let (g, room) = at-0 z in refused (at-done g room)));
+        kept = λ refused. rw (ne-eqb (said .number) 0 (λ z. let (g, room) = run-tells z in refused (at-done g room)));
       }
     where
       tell : {a : Answer} → said ≡ a → Says a
       tell e = subst Says e told
-
-      at-0 : said .number ≡ 0 → Obeyable sheet proposals schedule × (recordLength n ≤ length out)
-      at-0 z = subst (λ (m : ℕ). Told m (said .position)) z told
