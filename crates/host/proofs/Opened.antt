@@ -3,21 +3,21 @@ use Prim.Native.Nat.{ℕ, _*_, _≤_}
 use mathlib.Core.Path.{_≡_, refl, sym, ap, _∙_}
 use mathlib.Core.Logic.{_↔_, _⊎_, inl, inr, ⊎-elim}
 use mathlib.Core.List.{List}
-use mathlib.Core.Bool.{Bool, true, false, not, cond}
+use mathlib.Core.Bool.{Bool, true, false, cond}
 use native.Mathlib.Decide.{ℕ-discrete}
 use native.Mathlib.Omega.{arith}
 use borrow.Author.Tests.{eq-eqb, ne-eqb}
-use lib.Dec.{ltb, eqb}
-use lib.ListN.{length, getD}
-use Rattle.sheet.specs.Rows.{layoutOf, partiesOf}
+use lib.Dec.{eqb}
+use lib.ListN.{length}
+use Rattle.sheet.specs.Rows.{partiesOf}
 use Rattle.sheet.specs.Bytes.{num}
 use Rattle.answers.specs.Answers.{Answer, done}
-use Rattle.rules.specs.Check.{headerOk, lengthOk, checkAnswer}
+use Rattle.rules.specs.Check.{checkAnswer}
 use Rattle.sheet.proofs.Folds.{held, failed}
-use Rattle.rules.proofs.Says.{rows, writers}
 use Rattle.state.specs.Opening.{openAnswer}
 use Rattle.state.proofs.FormWords.{accepted-says}
 use Rattle.state.proofs.Copies.{length-range}
+use Rattle.steps.proofs.RunSays.{check-most}
 use Rattle.image.specs.Image.{proposalsOf, proposalCount, proposalsIn}
 use Rattle.image.proofs.Counts.{counted}
 use Rattle.host.specs.Calls.{unlessUnopened, proposalsFor}
@@ -37,18 +37,10 @@ module _ (sheet : List ℕ) where
   abbrev Most : ℕ → Answer → Type 0
   Most k a = a .number ≤ k
 
-  check-most : Most 6 (checkAnswer sheet)
-  check-most =
-      chosen (Most 6) (ltb (length sheet) 8) (λ _. omega arith) (λ _.
-      chosen (Most 6) (not (eqb (getD sheet 2 0) 1)) (λ _. omega arith) (λ _.
-      chosen (Most 6) (not (headerOk (layoutOf sheet))) (λ _. omega arith) (λ _.
-      chosen (Most 6) (not (lengthOk sheet)) (λ _. omega arith) (λ _.
-      chosen (Most 6) (eqb (rows sheet) 0) (λ _. chosen (Most 6) (eqb (writers sheet) 0) (λ _. omega arith) (λ _. omega arith)) (λ _. omega arith)))))
-
   -- an opening is refused with at most 7
   pub open-most : (xs : List ℕ) → openAnswer sheet xs .number ≤ 7
   open-most xs =
-      chosen (Most 7) ok (λ _. chosen (Most 7) (eqb (length xs) n) (λ _. omega arith) (λ _. omega arith)) (λ _. omega (arith, check-most))
+      chosen (Most 7) ok (λ _. chosen (Most 7) (eqb (length xs) n) (λ _. omega arith) (λ _. omega arith)) (λ _. omega (arith, check-most sheet))
 
   -- ---- the proposals that the bytes hold
 

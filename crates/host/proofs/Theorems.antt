@@ -1,21 +1,25 @@
 -- Demand 3 of the host's calls is that of the moves which they stand for, read off the bytes of the session that they lead to; of its run that of the record.
 use Prim.Native.Nat.{ℕ, _-_, _*_, _%_, _^_, _≤_, _<_}
-use mathlib.Core.Path.{_≡_, sym, ap, _∙_, subst, subst⁻¹, subst₂}
+use mathlib.Core.Path.{_≡_, refl, sym, ap, _∙_, subst, subst⁻¹, subst₂}
+use mathlib.Core.Logic.{⊎-elim}
 use mathlib.Core.List.{List, [], _++_, map}
 use mathlib.Core.Bool.{cond}
 use native.Mathlib.Omega.{arith}
-use borrow.Author.Tests.{eq-eqb}
+use borrow.Author.Tests.{eq-eqb, eqb-true}
 use lib.Dec.{T, eqb}
 use lib.ListN.{length, getD, drop}
 use Rattle.sheet.specs.Rows.{partiesOf}
 use Rattle.sheet.specs.Lists.{all}
-use Rattle.sheet.proofs.Folds.{and-right, all-append}
+use Rattle.sheet.proofs.Folds.{and-right, all-append, lt-or-le}
+use Rattle.sheet.proofs.FirstBad.{first-none}
 use Rattle.answers.specs.Answers.{Answer, answer, done}
 use Rattle.rules.specs.Check.{checkAnswer}
+use Rattle.rules.proofs.Says.{past-6}
 use Rattle.builder.specs.Build.{builtSheet}
 use Rattle.builder.proofs.Theorems.{built-says}
 use Rattle.state.specs.Session.{freshSession, partyOf}
 use Rattle.state.specs.declared.kept.Session.{Session}
+use Rattle.state.proofs.Openings.{opens-when}
 use Rattle.image.specs.Image.{sessionBytes, partyFrom, partyPlace, ofImage, Below, Sized}
 use Rattle.image.proofs.Inverse.{length-session}
 use Rattle.record.specs.Record.{recordLength, ofRecord}
@@ -27,16 +31,17 @@ use Rattle.steps.proofs.Agreement.{lasting}
 use Rattle.steps.proofs.Given.{Follows, moved-follows}
 use Rattle.steps.proofs.Moves.{moves-lead, moved-append}
 use Rattle.steps.proofs.Tally.{moves-acts}
+use Rattle.steps.proofs.RunSays.{run-tells}
 use Rattle.agreement.specs.Demand.{Opens, proposalOf, Demanded, LastingRead}
 use Rattle.agreement.specs.Statements.{OfRecord, Words}
 use Rattle.agreement.proofs.Demands.{rules}
 use Rattle.agreement.proofs.Readings.{Says, Reads, read, read-lasting, demanded-by, lasting-by}
 use Rattle.agreement.proofs.Theorems.{over-openings}
 use Rattle.host.specs.Word.{answerWord}
-use Rattle.host.specs.Calls.{proposalsFor, hostOpen, openBytes, lastIndex, hostRun, runBytes}
-use Rattle.host.specs.Demand.{proposalIn, afterAll, wordsOf, valuesIn, leftBy, OfHost, OverHostCalls, OfHostRun, Runs, LaterRun, OverHostRuns, OverHostBuilt}
+use Rattle.host.specs.Calls.{proposalsFor, hostOpen, openBytes, lastIndex, heard, hostRun, runBytes}
+use Rattle.host.specs.Demand.{proposalIn, afterAll, wordsOf, valuesIn, leftBy, OfHost, OverHostCalls, OfHostRun, Runs, HostRunDone, LaterRun, OverHostRuns, OverHostBuilt}
 use Rattle.host.proofs.Fitting.{reached-sized}
-use Rattle.host.proofs.Heard.{unheard}
+use Rattle.host.proofs.Heard.{unheard, heard-some}
 use Rattle.host.proofs.PartyCalls.{partyCalls, all-of-parties, parties-append, calls-follow}
 use Rattle.host.proofs.Encoded.{calls-leave, calls-number, calls-acts}
 use Rattle.host.proofs.Reading.{party-at, says}
@@ -174,6 +179,31 @@ module _ (sheet proposals schedule out : List ℕ) (r : Runs sheet proposals sch
             run-bytes
             (demanded-by (proposals-in sheet proposals (r .bytes) (r .accepted) (r .count)) (of-record .told));
       }
+
+-- and it is done only so: it opens, and a byte at the last index would be a bad one
+done-runs : (sheet proposals schedule out : List ℕ) → Below 256 proposals → hostRun sheet proposals schedule (length out) ≡ done
+    → Runs sheet proposals schedule out
+done-runs sheet proposals schedule out low e =
+    let n = partiesOf sheet in
+    let numbers = proposalsFor sheet proposals in
+    let (_, each, zero) =
+    opens-when (eqb (checkAnswer sheet .number) 0) (eqb (length proposals) (4 * n)) (checkAnswer sheet)
+    (runAnswer sheet numbers (heard schedule) (length out)) refl (ap (λ (a : Answer). a .number) e) in
+    let (((r, _), good), room) = run-tells sheet numbers (heard schedule) out zero in
+    let short : length schedule ≤ lastIndex =
+    ⊎-elim (λ long. absurd (heard-some lastIndex sheet [] schedule long (first-none (byteOk n) 1 (heard schedule) good))) (λ l. l)
+    (lt-or-le lastIndex (length schedule)) in
+    record {
+      accepted = past-6 sheet r;
+      bytes = low;
+      count = eqb-true (length proposals) (4 * n) each;
+      good = subst (λ (l : List ℕ). T (all (byteOk n) l)) (unheard lastIndex schedule short) good;
+      indexed = short;
+      room = room;
+    }
+
+pub host-run-done : HostRunDone
+host-run-done sheet proposals schedule out low = (done-runs sheet proposals schedule out low, answers-done sheet proposals schedule out)
 
 later-run : (sheet proposals schedule out : List ℕ) → Runs sheet proposals schedule out → LaterRun sheet proposals schedule out
 later-run sheet proposals schedule out r more other q =

@@ -1,6 +1,7 @@
 -- Demand 3, over the bytes of a session and the words of the calls on it, and over the run's word and bytes. Each statement is proved in `proofs/Theorems.antt`.
 use Prim.Native.Nat.{ℕ, _-_, _*_, _/_, _%_, _^_, _≤_}
 use mathlib.Core.Path.{_≡_}
+use mathlib.Core.Logic.{_↔_}
 use mathlib.Core.List.{List, [], _∷_, _++_, map}
 use mathlib.Core.Bool.{cond}
 use lib.ListN.{length, drop}
@@ -112,6 +113,12 @@ pub record Runs (sheet proposals schedule out : List ℕ) : Type 0 where
   pub good : T (all (byteOk (partiesOf sheet)) schedule)
   pub indexed : length schedule ≤ lastIndex
   pub room : recordLength (partiesOf sheet) ≤ length out
+
+-- a run is done exactly so, with proposals of bytes and whatever else it is lent
+abbrev pub HostRunDone : Type 0
+HostRunDone =
+    (sheet proposals schedule out : List ℕ) → Below 256 proposals
+    → hostRun sheet proposals schedule (length out) ≡ done ↔ Runs sheet proposals schedule out
 
 -- and the record of a longer schedule agrees with that of a shorter
 abbrev pub LaterRun : List ℕ → List ℕ → List ℕ → List ℕ → Type 0

@@ -16,11 +16,10 @@ use Rattle.state.specs.Session.{freshSession, layout, partyOf}
 use Rattle.state.specs.declared.kept.Party.{Party}
 use Rattle.state.specs.declared.kept.Session.{Session}
 use Rattle.state.proofs.Filled.{fresh-party}
-use Rattle.steps.specs.Step.{step, stop, stoppedParty}
+use Rattle.steps.specs.Step.{step, stop}
 use Rattle.steps.specs.Moves.{Move, stepOf, stopOf, movedBy, stepsBefore, stopsIn}
 use Rattle.steps.specs.Reach.{stepLimit, movesOn}
-use Rattle.steps.proofs.Landing.{party-set}
-use Rattle.steps.proofs.Turns.{step-none, step-other, stop-other, stop-decided, stop-ends}
+use Rattle.steps.proofs.Turns.{step-none, step-other, stop-other, stop-own, stop-decided}
 use Rattle.steps.proofs.Changes.{step-live, step-status}
 use Rattle.steps.proofs.Reached.{here, by-step, by-stop, Reached, reached-kept, reached-parties}
 use Rattle.steps.proofs.Moves.{Ofs, moves-lead, moves-on}
@@ -119,6 +118,14 @@ module _ (sheet proposals : List ℕ) (rules : Rules6 sheet) (j : ℕ) (least : 
       by (yes d) before = subst (λ (k : ℕ). T (stopsIn j (movesOn R ++ (stopOf k ∷ [])))) d (in-last j (movesOn R))
       by (no d) before = in-front j (movesOn R) (stopOf i ∷ []) (before (sym (ap (λ (p : Party). p .status) (stop-other t i a j least d)) ∙ e))
 
+  -- who is stopped is not live
+  stop-over : (t : Session) → j ≤ length (t .parties) → 2 ≤ statusOf (stop t j)
+  stop-over t l = subst⁻¹ (λ (p : Party). 2 ≤ p .status) (stop-own t j least l) (by (eqb (partyOf (t .parties) j .status) 2))
+    where
+      by : (b : Bool) → 2 ≤ cond b 2 3
+      by true = omega arith
+      by false = omega arith
+
   -- and who had one is not live
   in-over : {s : Session} (R : Reached sheet proposals s) → T (stopsIn j (movesOn R)) → 2 ≤ statusOf s
   unfolding movesOn
@@ -140,7 +147,7 @@ module _ (sheet proposals : List ℕ) (rules : Rules6 sheet) (j : ℕ) (least : 
       front d (inr x) = absurd (d (sym (eqb→eq i j (subst T (or-false (eqb i j)) x))))
 
       by : Dec (j ≡ i) → (j ≢ i → T (stopsIn j (movesOn R ++ (stopOf i ∷ []))) → 2 ≤ statusOf t) → T (stopsIn j (movesOn R ++ (stopOf i ∷ []))) → 2 ≤ statusOf (stop t i)
-      by (yes d) before x = subst (λ (k : ℕ). 2 ≤ statusOf (stop t k)) d (stop-ends t j least (seated R))
+      by (yes d) before x = subst (λ (k : ℕ). 2 ≤ statusOf (stop t k)) d (stop-over t (seated R))
       by (no d) before x = subst⁻¹ (λ (p : Party). 2 ≤ p .status) (stop-other t i a j least d) (before d x)
 
   -- decided, or as many own steps as steps were given before a stop
@@ -148,8 +155,7 @@ module _ (sheet proposals : List ℕ) (rules : Rules6 sheet) (j : ℕ) (least : 
   Taken {s} R = (statusOf s ≡ 2) ⊎ (stepsBefore j (movesOn R) ≤ stepsOf s)
 
   stop-steps : (t : Session) → j ≤ length (t .parties) → stepsOf (stop t j) ≡ stepsOf t
-  unfolding stop
-  stop-steps t l = ap (λ (p : Party). p .steps) (party-set (t .parties) j (stoppedParty (partyOf (t .parties) j)) least l)
+  stop-steps t l = ap (λ (p : Party). p .steps) (stop-own t j least l)
 
   module _ {t : Session} (R : Reached sheet proposals t) (i : ℕ) (a : 1 ≤ i) (b : i ≤ n) (before : Taken R) where
     inside : j ≤ layout t .parties

@@ -30,6 +30,7 @@ pub mod Schedules
 pub mod Obeying
 pub mod Moves
 pub mod RunAnswers
+pub mod RunSays
 pub mod RunCalls
 pub mod Tally
 pub mod Enough

@@ -18,14 +18,13 @@ use Rattle.state.specs.Session.{freshSession, layout, partyOf}
 use Rattle.state.specs.declared.kept.Party.{Party}
 use Rattle.state.specs.declared.kept.Session.{Session}
 use Rattle.state.proofs.Filled.{fresh-party}
-use Rattle.steps.specs.Step.{placeActed, step, stoppedParty, stop}
+use Rattle.steps.specs.Step.{placeActed, step, stop}
 use Rattle.steps.specs.Moves.{Move, stepOf, stopOf, whose, moved, movedBy}
 use Rattle.steps.specs.Run.{byteOk, movesIn, ran}
 use Rattle.steps.specs.Trace.{isAct, acts}
 use Rattle.steps.specs.Reach.{movesOn}
-use Rattle.steps.proofs.Landing.{party-set}
 use Rattle.steps.proofs.Changes.{step-live}
-use Rattle.steps.proofs.Turns.{step-none, step-other, stop-other}
+use Rattle.steps.proofs.Turns.{step-none, step-other, stop-other, stop-own}
 use Rattle.steps.proofs.Reached.{Reached, here, reached-kept, reached-parties, reached-well-formed}
 use Rattle.steps.proofs.Moves.{OfParty, Ofs, none, more, move-leads, moves-back, moves-ofs, of-parties, obeyed-moved}
 
@@ -68,9 +67,8 @@ module _ (sheet proposals : List ℕ) (rules : Rules6 sheet) (count : length pro
         over : 2 ≤ p .status → stepsOf (step s i) i ≡ stepsOf s i + cond (isAct i (stepOf i) (placeActed s i)) 1 0
         over l = rw (eq-eqb i i refl, le-ltb (p .status) 2 l) (ap (λ (t : Session). stepsOf t i) (step-none s i least l) ∙ sym (add-zero (stepsOf s i)))
 
-    stop-own : stepsOf (stop s i) i ≡ stepsOf s i
-    unfolding stop
-    stop-own = ap (λ (q : Party). q .steps) (party-set (s .parties) i (stoppedParty p) least seated)
+    own-stop : stepsOf (stop s i) i ≡ stepsOf s i
+    own-stop = ap (λ (q : Party). q .steps) (stop-own s i least seated)
 
     move-adds : (m : Move) → OfParty n m → Adds m
     unfolding Adds
@@ -83,7 +81,7 @@ module _ (sheet proposals : List ℕ) (rules : Rules6 sheet) (count : length pro
     move-adds (stopOf j) (a, b) = by (ℕ-discrete i j) ∙ sym (add-zero (stepsOf s i))
       where
         by : Dec (i ≡ j) → stepsOf (stop s j) i ≡ stepsOf s i
-        by (yes e) = subst (λ (k : ℕ). stepsOf (stop s k) i ≡ stepsOf s i) e stop-own
+        by (yes e) = subst (λ (k : ℕ). stepsOf (stop s k) i ≡ stepsOf s i) e own-stop
         by (no d) = ap (λ (q : Party). q .steps) (stop-other s j a i least d)
 
   pub tallied : {s : Session} → Reached sheet proposals s → {ms : List Move} → Ofs n ms → stepsOf (movedBy s ms) i ≡ stepsOf s i + acts s ms i

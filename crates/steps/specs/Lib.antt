@@ -4,6 +4,7 @@ pub mod Moves
 pub mod Calls
 pub mod CallSays
 pub mod Run
+pub mod RunSays
 pub mod Trace
 pub mod Worked
 pub mod Ready
