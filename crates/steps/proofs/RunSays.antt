@@ -22,7 +22,7 @@ use Rattle.state.proofs.FormWords.{accepted-says}
 use Rattle.state.proofs.Openings.{not-accepted, miscounted, opens}
 use Rattle.record.specs.Record.{recordLength}
 use Rattle.steps.specs.Run.{byteOk, runAnswer}
-use Rattle.steps.specs.RunSays.{Opens, Obeyable, FirstBadByte, RunSays}
+use Rattle.steps.specs.RunSays.{Openable, Obeyable, FirstBadByte, RunSays}
 use Rattle.steps.proofs.RunAnswers.{run-unscheduled, run-unfit, run-done, out-written}
 
 -- ---- the check's refusals
@@ -64,10 +64,10 @@ module _ (sheet proposals schedule out : List ℕ) where
   at-7 : Rules6 sheet → (length proposals ≡ n → ⊥) → said ≡ answer 7 0
   at-7 r c = stays (answer 7 0) (openAnswer sheet proposals) _ (miscounted sheet proposals (past-6 sheet r) c) refl
 
-  opened : Opens sheet proposals → done ≡ openAnswer sheet proposals
+  opened : Openable sheet proposals → done ≡ openAnswer sheet proposals
   opened (r, c) = opens sheet proposals (past-6 sheet r) c
 
-  at-8 : Opens sheet proposals → (k : ℕ) → FirstBadByte n schedule k → said ≡ answer 8 k
+  at-8 : Openable sheet proposals → (k : ℕ) → FirstBadByte n schedule k → said ≡ answer 8 k
   at-8 o k f =
       let e = first-at (byteOk n) 0 1 k schedule (f .index) (f .bad) (f .earlier) in
       let last : bad - 1 ≡ k = omega arith in
@@ -88,7 +88,7 @@ module _ (sheet proposals schedule out : List ℕ) where
   Told m k =
       cond (eqb m 0) (Obeyable sheet proposals schedule × (recordLength n ≤ length out))
       (cond (eqb m 7) (Rules6 sheet × (length proposals ≡ n → ⊥))
-      (cond (eqb m 8) (Opens sheet proposals × FirstBadByte n schedule k)
+      (cond (eqb m 8) (Openable sheet proposals × FirstBadByte n schedule k)
       (cond (eqb m 11) (Obeyable sheet proposals schedule × (length out < recordLength n)) (Unit {0}))))
 
   Says : Answer → Type 0
@@ -115,7 +115,7 @@ module _ (sheet proposals schedule out : List ℕ) where
       fourth : Obeyable sheet proposals schedule → Says said
       fourth g = ⊎-elim (λ short. put (at-11 g short) (g, short)) (λ room. put (at-done g room) (g, room)) (lt-or-le (length out) (recordLength n))
 
-      third : Opens sheet proposals → Says said
+      third : Openable sheet proposals → Says said
       third o =
           ⊎-elim
           (λ z. fourth (o, none-first (byteOk n) 1 schedule (omega arith) z))

@@ -20,12 +20,14 @@ use Rattle.steps.specs.Moves.{Move, stepOf, stopOf}
 abbrev pub byteOk : ℕ → ℕ → Bool
 byteOk n b = within 1 n b || within 129 (128 + n) b
 
+-- the step or stop that a byte stands for, and those of a schedule
 abbrev pub moveOf : ℕ → Move
 moveOf b = cond (ltb b 128) (stepOf b) (stopOf (b - 128))
 
 abbrev pub movesIn : List ℕ → List Move
 movesIn schedule = map moveOf schedule
 
+-- what a byte makes of a session
 abbrev pub entry : Session → ℕ → Session
 entry s b = cond (ltb b 128) (step s b) (stop s (b - 128))
 

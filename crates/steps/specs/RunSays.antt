@@ -14,12 +14,12 @@ use Rattle.record.specs.Record.{recordLength, recordBytes}
 use Rattle.steps.specs.Run.{byteOk, runAnswer, ran, runOut}
 
 -- every rule holds of the sheet, and there is a proposal for each party
-abbrev pub Opens : List ℕ → List ℕ → Type 0
-Opens sheet proposals = Rules6 sheet × (length proposals ≡ partiesOf sheet)
+abbrev pub Openable : List ℕ → List ℕ → Type 0
+Openable sheet proposals = Rules6 sheet × (length proposals ≡ partiesOf sheet)
 
 -- and every byte of the schedule is good
 abbrev pub Obeyable : List ℕ → List ℕ → List ℕ → Type 0
-Obeyable sheet proposals schedule = Opens sheet proposals × T (all (byteOk (partiesOf sheet)) schedule)
+Obeyable sheet proposals schedule = Openable sheet proposals × T (all (byteOk (partiesOf sheet)) schedule)
 
 -- byte k of the schedule, counted from 0, is the first that is bad for n parties
 pub record FirstBadByte (n : ℕ) (schedule : List ℕ) (k : ℕ) : Type 0 where
@@ -37,7 +37,7 @@ pub record RunSays (sheet proposals schedule out : List ℕ) : Type 0 where
   pub seven : runAnswer sheet proposals schedule (length out) ≡ answer 7 0 ↔ Rules6 sheet × (length proposals ≡ partiesOf sheet → ⊥)
   pub eight :
       (k : ℕ)
-      → runAnswer sheet proposals schedule (length out) ≡ answer 8 k ↔ Opens sheet proposals × FirstBadByte (partiesOf sheet) schedule k
+      → runAnswer sheet proposals schedule (length out) ≡ answer 8 k ↔ Openable sheet proposals × FirstBadByte (partiesOf sheet) schedule k
   pub eleven :
       runAnswer sheet proposals schedule (length out) ≡ answer 11 0
       ↔ Obeyable sheet proposals schedule × (length out < recordLength (partiesOf sheet))
