@@ -1,4 +1,6 @@
 // An agreement of three parties, by the calls that are lent a session: a line for each call, and for each party in the end.
+#![tactic(auto)]
+
 mod told;
 
 ghost use Rattle.std.specs.Prelude.{◌≡◌};

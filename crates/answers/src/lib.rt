@@ -1,4 +1,6 @@
 // What the calls answer. `specs/Answers.antt` gives document 01's number and position of each case.
+#![tactic(auto)]
+
 ghost use Rattle.std.specs.Prelude.{◌≡◌};
 ghost use Rattle.answers.specs.Answers.{number_of, position_of};
 

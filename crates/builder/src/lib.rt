@@ -1,4 +1,6 @@
 // The sheets that the library writes.
+#![tactic(auto)]
+
 mod building;
 
 ghost use Rattle.std.specs.Prelude.{◌≡◌, length};

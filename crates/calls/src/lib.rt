@@ -1,4 +1,6 @@
 // The calls: stop and live on the parts of a session, and step, stop and live on a whole one, lent and by value.
+#![tactic(auto)]
+
 pub mod parts;
 pub mod values;
 

@@ -1,4 +1,6 @@
 // The calls for a host in C: numbers and byte slices, and one word as the answer.
+#![tactic(auto)]
+
 mod words;
 
 ghost use Rattle.std.specs.Prelude.{◌≡◌, ◌<◌, length};

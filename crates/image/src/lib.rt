@@ -1,4 +1,6 @@
 // A session in bytes: its parts are read out of them and written into them, where they are 3,418.
+#![tactic(auto)]
+
 mod parties;
 pub mod proposals;
 mod sizes;

@@ -1,4 +1,6 @@
 // Lists the run of at most 4,096 schedule bytes from standard input.
+#![tactic(auto)]
+
 mod listing;
 mod text;
 

@@ -1,4 +1,6 @@
 // The record of a run, written into bytes that are lent.
+#![tactic(auto)]
+
 ghost use Rattle.std.specs.Prelude.{◌≡◌, ◌++◌, ◌&&◌, cond, ◌≤◌, leb, length, drop};
 ghost use Rattle.sheet.specs.Sizes.{most_parties};
 ghost use Rattle.record.specs.Record.{head_length, party_length, party_record, record_length, record_head, record_bytes};

@@ -1,4 +1,6 @@
 // The rules of a layout sheet, and its check.
+#![tactic(auto)]
+
 mod shape;
 mod writers;
 

@@ -1,4 +1,6 @@
 // Layout sheets: numbers in bytes, write sets, and the reader of rows. The rules stand in `rules`.
+#![tactic(auto)]
+
 pub mod bytes;
 pub mod rows;
 pub mod sets;

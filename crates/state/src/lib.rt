@@ -1,4 +1,6 @@
 // What a session keeps, how it is opened, and when it is well formed.
+#![tactic(auto)]
+
 mod kept;
 pub mod opening;
 pub mod wellformed;
