@@ -10,4 +10,3 @@ pub mod Slots
 pub mod FirstBad
 pub mod WriteSets
 pub mod TestWords
-pub mod Reader

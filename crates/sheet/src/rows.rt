@@ -6,7 +6,7 @@ ghost use Rattle.sheet.specs.Rows.{slot, slot_after, row_count, sheet_length, ro
 use crate::bytes;
 use crate::sizes::{HEADER_LENGTH, MASK_AT, MOST_PARTIES, MOST_ROWS, OWN_AT, PAIR_AT, ROW_LENGTH};
 
-#[derive(Drop)]
+#[derive(Clone, Copy)]
 pub struct Row {
     pub start: u16,
     pub mask: u64,
@@ -15,21 +15,21 @@ pub struct Row {
 }
 
 // Whose a row is.
-#[derive(Drop)]
+#[derive(Clone, Copy)]
 pub struct Slot {
     pub round: usize,
     pub party: usize,
 }
 
 // A row that was read, and the next place.
-#[derive(Drop)]
+#[derive(Clone, Copy)]
 pub struct Taken {
     pub row: Row,
     pub next: usize,
 }
 
 // The lent sheet, and the place of the next row, counted from 0.
-#[derive(Drop)]
+#[derive(Clone, Copy)]
 pub struct RowReader<'a> {
     pub sheet: &'a [u8],
     pub row: usize,
