@@ -31,14 +31,14 @@ move_leads R (stop_of i) o = by_stop i o.0 o.1 R
 
 pub moves_lead : {n : ℕ} {s t : Session} → Leads n s t → {ms : List Move} → Ofs n ms → Leads n s (moved_by t ms)
 moves_lead R none = R
-moves_lead R (more (step_of i) o os) = moves_lead (by_step i o.0 o.1 R) os
-moves_lead R (more (stop_of i) o os) = moves_lead (by_stop i o.0 o.1 R) os
+moves_lead {t = t} R (more (step_of i) o os) = moves_lead {t = step t i} (by_step i o.0 o.1 R) os
+moves_lead {t = t} R (more (stop_of i) o os) = moves_lead {t = stop t i} (by_stop i o.0 o.1 R) os
 
 pub moves_on_lem : {n : ℕ} {s t : Session} (R : Leads n s t) {ms : List Move} (os : Ofs n ms) → moves_on (moves_lead R os) ≡ moves_on R ++ ms
 unfolding moves_on moves_lead
 moves_on_lem R none = sym (append-nil (moves_on R))
-moves_on_lem R (more (step_of i) {ms} o os) = moves_on_lem (by_step i o.0 o.1 R) os ∙ append_assoc (moves_on R) (step_of i ∷ []) ms
-moves_on_lem R (more (stop_of i) {ms} o os) = moves_on_lem (by_stop i o.0 o.1 R) os ∙ append_assoc (moves_on R) (stop_of i ∷ []) ms
+moves_on_lem {t = t} R (more (step_of i) {ms} o os) = moves_on_lem {t = step t i} (by_step i o.0 o.1 R) os ∙ append_assoc (moves_on R) (step_of i ∷ []) ms
+moves_on_lem {t = t} R (more (stop_of i) {ms} o os) = moves_on_lem {t = stop t i} (by_stop i o.0 o.1 R) os ∙ append_assoc (moves_on R) (stop_of i ∷ []) ms
 
 -- ---- the moves on a way lead where it leads
 

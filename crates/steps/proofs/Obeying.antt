@@ -72,10 +72,10 @@ module _ (sheet proposals : List ℕ) (rules : Rules6 sheet) where
   pub obeyed_reached : {s : Session} → Reached sheet proposals s → (bs : List ℕ) → T (all (byte_ok (parties_of sheet)) bs)
       → Reached sheet proposals (obeyed s bs)
   obeyed_reached R [] t = R
-  obeyed_reached R (b ∷ bs) t =
+  obeyed_reached {s} R (b ∷ bs) t =
       let here = byte_ok (parties_of sheet) b in
       let later = all (byte_ok (parties_of sheet)) bs in
-      obeyed_reached (entry_reached R b (and_left here later t)) bs (and_right here later t)
+      obeyed_reached {s = entry s b} (entry_reached R b (and_left here later t)) bs (and_right here later t)
 
 -- ---- steps and stops by status
 

@@ -88,7 +88,7 @@ module _ (sheet proposals : List ℕ) (rules : Rules6 sheet) (count : length pro
       let good = and_left (byte_ok n b) (all (byte_ok n) bs) t in
       let later = and_right (byte_ok n b) (all (byte_ok n) bs) t in
       ap (λ (u : Session). called u bs) (call_entry R b (byte_good sheet proposals rules b good))
-      ∙ called_obeyed (entry_reached sheet proposals rules R b good) bs later
+      ∙ called_obeyed {s = entry s b} (entry_reached sheet proposals rules R b good) bs later
 
   told_done : {s : Session} → Reached sheet proposals s → (bs : List ℕ) → T (all (byte_ok n) bs)
       → T (all (λ t. eqb t.number 0) (called_told s bs))
@@ -100,7 +100,7 @@ module _ (sheet proposals : List ℕ) (rules : Rules6 sheet) (count : length pro
       and_both (eqb (call_told s b).number 0) (all (λ t. eqb t.number 0) (called_told (call s b) bs))
       (held (eqb (call_told s b).number 0) (eq-eqb (call_told s b).number 0 (call_told_lem R b g)))
       (subst (λ (u : Session). T (all (λ t. eqb t.number 0) (called_told u bs))) (sym (call_entry R b g))
-      (told_done (entry_reached sheet proposals rules R b good) bs later))
+      (told_done {s = entry s b} (entry_reached sheet proposals rules R b good) bs later))
 
   -- the acts are the step calls that told something other than 8
   acts_told_lem : {s : Session} → Reached sheet proposals s → (bs : List ℕ) → T (all (byte_ok n) bs) → (i : ℕ)
@@ -111,7 +111,7 @@ module _ (sheet proposals : List ℕ) (rules : Rules6 sheet) (count : length pro
       let g = byte_good sheet proposals rules b good in
       let test = act_told R b g i in
       let later = ap (λ (u : Session). acts u (moves_in bs) i) (sym (entry_moved s b))
-      ∙ acts_told_lem (entry_reached sheet proposals rules R b good) bs (and_right (byte_ok n b) (all (byte_ok n) bs) t) i
+      ∙ acts_told_lem {s = entry s b} (entry_reached sheet proposals rules R b good) bs (and_right (byte_ok n b) (all (byte_ok n) bs) t) i
       ∙ ap (λ (u : Session). acts_told i (moves_in bs) (values_told u bs)) (sym (call_entry R b g)) in
       λ k. cond (test k) (suc (later k)) (later k)
 
