@@ -1,0 +1,38 @@
+-- The loop's invariant: the header and k rows stand written, p is the next row's, and past them all is as it was; a turn writes one row more.
+use Rattle.std.proofs.Common.{◌≡◌, ◌++◌, ◌+◌, ◌*◌, ◌-◌, refl, sym, ap, ◌∙◌, arith, ℕ, length, take, drop, rules}
+use Rattle.sheet.specs.Rows.{slots, row_count}
+use Rattle.sheet.specs.declared.rows.Row.{Row}
+use Rattle.sheet.proofs.Parts.{Written, since}
+use Rattle.sheet.proofs.InTurn.{turn, turned}
+use Rattle.sheet.proofs.Slots.{after_next, at_next, at_slot, length_slots, slots_step}
+use Rattle.builder.specs.Build.{row_bytes, built_sheet}
+use Rattle.builder.proofs.building.put_sheet.Invariants.{header, bytes_at}
+use Rattle.builder.proofs.building.put_sheet.Goals as goal
+
+pub loop-k-preserved : goal.loop-k-preserved
+loop-k-preserved c =
+    let l = c.loop-k in
+    let a = c.args in
+    let n = a.parties in
+    let at = 8 + 14 * l.k in
+    let row = at_slot n l.k l.p l.invariant.0 (omega arith) in
+    let bytes = c.put_row.ensures ∙ ap (λ (w : Row). row_bytes w ++ drop 14 (take (length l.out - at) (drop at l.out))) c.built_row-w.ensures in
+    let r = c.requires.0.numbers in (
+      rw (c.next-p.ensures ∙ after_next l.p (let last = row.last in omega arith)) (at_next l.k l.p l.invariant.0),
+      omega arith,
+      search rules,
+      turn (bytes_at a.kind a.bound) 14 (λ _. refl) (header a.kind a.bound n) (slots n) l.k
+          (slots_step n l.k l.p r.parties_least l.invariant.0 (omega arith)) (omega arith) bytes l.invariant.3,
+    )
+
+pub returns : goal.returns
+returns c =
+    let l = c.loop-k in
+    let a = c.args in
+    let n = a.parties in
+    let size = length_slots n c.requires.0.numbers.parties_least in
+    let end : l.k ≡ row_count n = omega arith in
+    let headed : Written a.out.now (header a.kind a.bound n) 8 c.put_header.new.o = record { size = refl; is = c.put_header.ensures } in
+    turned (bytes_at a.kind a.bound) 14 (λ _. refl) (header a.kind a.bound n) (slots n) l.k (omega arith)
+    (since (omega arith) headed l.invariant.3)
+    ∙ ap (λ (j : ℕ). built_sheet a.kind a.bound n ++ drop (8 + 14 * j) a.out.now) end

@@ -1,0 +1,32 @@
+-- The loop's invariant: the header and k rows stand written, p is the next row's, and past them all is as it was; a turn writes one row more.
+use Prim.Native.Nat.{ℕ, ◌+◌, ◌*◌, ◌-◌, ◌≤◌}
+use mathlib.Core.Path.{◌≡◌, refl, sym, ap, ◌∙◌}
+use mathlib.Core.List.{List, ◌++◌}
+use native.Mathlib.Omega.{arith}
+use lib.ListN.{length, take, drop, length-take, length-drop}
+use borrow.Author.Rules.{rules}
+use Rattle.sheet.specs.Rows.{slots, row_count}
+use Rattle.sheet.specs.Words.{IsSlot}
+use Rattle.sheet.specs.declared.rows.Row.{Row}
+use Rattle.sheet.specs.declared.rows.Slot.{Slot}
+use Rattle.sheet.proofs.Parts.{Written, found, since}
+use Rattle.sheet.proofs.InTurn.{up_to, turn, turned}
+use Rattle.sheet.proofs.Slots.{AtRow, after_next, at_first, at_next, at_slot, length_slots, slots_step}
+use Rattle.builder.specs.Build.{row_bytes, header_bytes, built_units, built_row, built_sheet}
+use Rattle.builder.proofs.building.put_sheet.Given as goal
+
+module _ (kind bound : ℕ) where
+  abbrev pub header : ℕ → List ℕ
+  header n = header_bytes kind bound n (built_units kind bound n)
+
+  abbrev pub bytes_at : Slot → List ℕ
+  bytes_at p = row_bytes (built_row kind bound p)
+
+abbrev pub invariant-loop-k : goal.invariant-loop-k
+invariant-loop-k l = (AtRow l.k l.p)
+    × (l.k ≤ row_count l.parties)
+    × (length l.out ≡ length l.initial.out)
+    × Written l.initial.out (up_to (bytes_at l.kind l.bound) (header l.kind l.bound l.parties) (slots l.parties) l.k) (8 + 14 * l.k) l.out
+
+abbrev pub decreases-loop-k : goal.decreases-loop-k
+decreases-loop-k l = l.count - l.k
