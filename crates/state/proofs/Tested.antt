@@ -1,17 +1,16 @@
 -- A function that answers a test is asked, and the branch on its answer tells the test; of a test after others that are passed, it alone is left.
 use Prim.Native.Nat.{ℕ, ◌≤◌, ◌<◌}
 use mathlib.Core.Path.{◌≡◌, sym, ◌∙◌}
-use mathlib.Core.Bool.{Bool, true, false, not, ◌&&◌}
+use mathlib.Core.Bool.{Bool, true, false, ◌&&◌}
 use native.Mathlib.Omega.{arith}
-use borrow.Author.Tests.{not-true, not-false}
 use lib.Dec.{T, leb, leb→le, le→leb}
 
 module _ {a b : Bool} (e : a ≡ b) where
-  pub passed : not a ≡ false → b ≡ true
-  passed n = sym e ∙ not-false a n
+  pub passed : a ≡ true → b ≡ true
+  passed t = sym e ∙ t
 
-  pub stopped : not a ≡ true → b ≡ false
-  stopped n = sym e ∙ not-true a n
+  pub stopped : a ≡ false → b ≡ false
+  stopped f = sym e ∙ f
 
 -- a test behind another: asked where that is passed, and else that settles the answer
 module _ {a b : Bool} (e : a ≡ b) where

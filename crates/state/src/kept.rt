@@ -5,7 +5,7 @@ ghost use Rattle.state.specs.Session.{fresh_party, cell};
 use sheet::sizes::{MOST_PARTIES, MOST_SHEET, MOST_UNITS};
 
 // A unit holds a mark.
-#[derive(Drop)]
+#[derive(Clone, Copy)]
 pub struct Mark(pub u8);
 
 impl Mark {
@@ -17,7 +17,7 @@ impl Mark {
 }
 
 // How far a party has come.
-#[derive(Drop)]
+#[derive(Clone, Copy)]
 pub struct Status(pub u8);
 
 impl Status {
@@ -31,7 +31,7 @@ impl Status {
 }
 
 // What a party's next step does.
-#[derive(Drop)]
+#[derive(Clone, Copy)]
 pub struct Place(pub u8);
 
 impl Place {
@@ -61,7 +61,7 @@ pub const MOST_STEPS: u16 = 1000;
 pub const CELLS: usize = MOST_PARTIES * MOST_PARTIES;
 
 // A party's entries.
-#[derive(Drop)]
+#[derive(Clone, Copy)]
 pub struct Party {
     pub status: u8,
     pub place: u8,
@@ -90,7 +90,7 @@ impl Party {
 }
 
 // `published` holds round r and lower k at MOST_PARTIES (r - 1) + (k - 1).
-#[derive(Drop)]
+#[derive(Clone, Copy)]
 pub struct Session {
     pub sheet: [u8; MOST_SHEET],
     pub proposals: [u32; MOST_PARTIES],

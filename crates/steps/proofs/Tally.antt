@@ -89,7 +89,7 @@ module _ (sheet proposals : List ℕ) (rules : Rules6 sheet) (count : length pro
   tallied {s} R none = sym (add-zero (steps_of s i))
   tallied {s} R (more m {ms} o os) =
       let one = move_adds R m o in
-      let later = tallied (move_leads R m o) os in
+      let later = tallied {s = moved s m} (move_leads R m o) os in
       by (is_act i m (place_acted s (whose m))) (steps_of s i) (acts (moved s m) ms i) one later
     where
       by : (b : Bool) {y z : ℕ} (x r : ℕ) → y ≡ x + cond b 1 0 → z ≡ y + r → z ≡ x + cond b (suc r) r

@@ -1,0 +1,14 @@
+-- Each part is filled with zeros, and a party with zeros is a fresh party 0.
+use borrow.Author.Rules.{rules}
+use lib.ListN.{replicate}
+use Rattle.state.proofs.opening.blank_session.Goals as goal
+
+pub returns : goal.returns
+returns c = λ i.
+    record {
+      sheet = replicate 1898 0;
+      proposals = replicate 16 0;
+      marks = replicate 1024 0;
+      published = replicate 256 0;
+      parties = replicate 16 (c.fresh-none.ensures i);
+    }
