@@ -1,0 +1,22 @@
+-- The loop's invariant: the head and the first p parties stand written, and past them all is as it was; a turn writes one party more.
+use Prim.Native.Nat.{ℕ, ◌+◌, ◌*◌, ◌-◌, ◌≤◌}
+use mathlib.Core.Path.{◌≡◌, refl, ap, ◌∙◌}
+use mathlib.Core.List.{◌++◌}
+use native.Mathlib.Omega.{arith}
+use lib.ListN.{length, drop, length-take, length-drop}
+use lib.Seq.{drop-cons}
+use borrow.Author.Rules.{rules}
+use Rattle.sheet.proofs.Parts.{Written, found, since}
+use Rattle.sheet.proofs.InTurn.{up_to, turn}
+use Rattle.state.specs.Session.{no_party}
+use Rattle.record.specs.Record.{party_record, record_head}
+use Rattle.record.proofs.put_whole.Given as goal
+
+abbrev pub invariant-loop-p : goal.invariant-loop-p
+invariant-loop-p l = (l.p ≤ l.n)
+    × (length l.parties ≡ 16)
+    × (length l.out ≡ length l.initial.out)
+    × Written l.initial.out (up_to party_record (record_head l.n) l.parties l.p) (4 + 7 * l.p) l.out
+
+abbrev pub decreases-loop-p : goal.decreases-loop-p
+decreases-loop-p l = l.n - l.p
