@@ -30,7 +30,7 @@ module _ (s : Session) (formed : T (well_formed s)) where
   parties_few = accepted.before.before.before.header.parties_most
 
 -- the byte is the layout's number of parties, so the code's test of a party is the definition's
-module _ (s : Session) (i : ℕ) {w : Bool} (formed : w ≡ well_formed s) (n : not w ≡ false) where
+module _ (s : Session) (i : ℕ) {w : Bool} (formed : w ≡ well_formed s) (n : w ≡ true) where
   pub is_formed : well_formed s ≡ true
   is_formed = passed formed n
 

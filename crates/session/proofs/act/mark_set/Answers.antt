@@ -1,0 +1,56 @@
+-- At j the set's units below start + j are stamped; each turn is one unit more, and from bit 64 on the mask has none.
+use Prim.Native.Nat.{ℕ, ◌+◌, ◌-◌, ◌^◌, ◌≤◌, ◌<◌}
+use mathlib.Core.Path.{◌≡◌, ap, subst, ◌∙◌}
+use mathlib.Core.Bool.{Bool, false, ◌&&◌}
+use mathlib.Core.List.{List}
+use mathlib.Core.Logic.{◌≢◌, ⊎_elim}
+use native.Mathlib.Omega.{arith}
+use borrow.Author.Rules.{rules}
+use lib.Dec.{T, ltb, ltb→lt, lt→ltb}
+use lib.ListN.{set}
+use Rattle.sheet.specs.Sets.{bit, in_set}
+use Rattle.sheet.proofs.Bits.{digit, digit_bit, bit_digit, bit_under}
+use Rattle.sheet.proofs.Folds.{and_left, and_right, and_both, fails, same_test}
+use Rattle.sheet.proofs.WriteSets.{at_says, bit_at}
+use Rattle.steps.specs.Step.{stamped}
+use Rattle.steps.proofs.Stamps.{stamped_none, stamped_same, stamped_more}
+use Rattle.session.proofs.act.mark_set.Invariants.{passed, member, low, both, none, kept, unit, no_unit, every}
+use Rattle.session.proofs.act.mark_set.Goals as goal
+
+pub loop-j-init : goal.loop-j-init
+loop-j-init c = let a = c.args in (search rules, stamped_none _ a.mark a.marks.now (none a.start a.mask))
+
+pub bounds-marks-start : goal.bounds-marks-start
+bounds-marks-start c =
+    let a = c.args in
+    c.requires.1 _ (unit a.start a.mask c.loop-j-test.j c.way_told-1.true)
+
+pub loop-j-preserved : goal.loop-j-preserved
+loop-j-preserved c =
+    let a = c.args in
+    let l = c.loop-j in
+    let old = passed a.start a.mask l.j in
+    let new = passed a.start a.mask (l.j + 1) in
+    let same = kept a.start a.mask l.j in (
+      search rules,
+      ⊎_elim
+          (λ w.
+          w.1 ∙ ap (λ (xs : List ℕ). set xs (a.start + l.j) a.mark) l.invariant.1
+          ∙ stamped_more old new a.mark a.marks.now (a.start + l.j)
+          (both a.start a.mask (l.j + 1) (a.start + l.j) (unit a.start a.mask l.j w.0.taken) (omega arith))
+          (λ u n. same u (λ t. n)))
+          (λ w.
+          w.1 ∙ l.invariant.1
+          ∙ stamped_same old new a.mark a.marks.now (λ u. same u (no_unit a.start a.mask l.j u w.0.left)))
+          c.if-mask-j-eq1.branch,
+    )
+
+pub returns : goal.returns
+returns c =
+    let a = c.args in
+    let l = c.loop-j in
+    let most = l.invariant.0 in
+    let last : l.j ≡ 64 = omega arith in
+    l.invariant.1
+    ∙ ap (λ (j : ℕ). stamped (passed a.start a.mask j) a.mark 0 a.marks.now) last
+    ∙ stamped_same _ _ a.mark a.marks.now (every a.start a.mask c.ranges.mask.fits)
