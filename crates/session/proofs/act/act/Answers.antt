@@ -34,44 +34,40 @@ pub returns-in-0 : goal.returns-in-0
 unfolding seen party_after marks_after published_after
 returns-in-0 c =
     let size = c.requires.parties in
-    rw (ap place_of c.in-0.keys1, ← size) (c.announce.ensures, (refl, refl))
+    rw (ap place_of c.in-0.is, ← size) (c.announce.ensures, (refl, refl))
 
 pub returns-in-1 : goal.returns-in-1
 unfolding seen party_after marks_after published_after
-returns-in-1 c = rw (ap place_of c.in-1.keys2) (c.publish.ensures.0, (refl, c.publish.ensures.1))
+returns-in-1 c = rw (ap place_of c.in-1.is) (c.publish.ensures.0, (refl, c.publish.ensures.1))
 
 pub returns-in-2 : goal.returns-in-2
 unfolding seen party_after marks_after published_after
-returns-in-2 c = rw (ap place_of c.in-2.keys3) (c.write.ensures.0, (c.write.ensures.1, refl))
+returns-in-2 c = rw (ap place_of c.in-2.is) (c.write.ensures.0, (c.write.ensures.1, refl))
 
 pub returns-in-3 : goal.returns-in-3
 unfolding seen party_after marks_after published_after
 returns-in-3 c =
     let size = c.requires.parties in
-    rw (ap place_of c.shared_slice_known-1.keys4, ← size) (c.read_top.ensures, (refl, refl))
+    rw (ap place_of c.in-3.is, ← size) (c.read_top.ensures, (refl, refl))
 
 pub returns-in-4 : goal.returns-in-4
 unfolding seen party_after marks_after published_after
 returns-in-4 c =
     let size = c.requires.parties in
-    rw (ap place_of c.shared_slice_known-1.keys5, ← size) (c.read_own.ensures, (refl, refl))
+    rw (ap place_of c.in-4.is, ← size) (c.read_own.ensures, (refl, refl))
 
 pub returns-in-5 : goal.returns-in-5
 unfolding seen party_after marks_after published_after
 returns-in-5 c =
     let size = c.requires.parties in
-    rw (ap place_of c.shared_slice_known-1.keys6, ← size) (c.read_pair.ensures, (refl, refl))
+    rw (ap place_of c.in-5.is, ← size) (c.read_pair.ensures, (refl, refl))
 
 pub returns-in-6 : goal.returns-in-6
 unfolding seen party_after marks_after published_after
 returns-in-6 c =
     let size = c.requires.parties in
-    rw (ap place_of c.shared_slice_known-1.keys7, ← size) (c.fetch.ensures, (refl, refl))
+    rw (ap place_of c.in-6.is, ← size) (c.fetch.ensures, (refl, refl))
 
 pub returns-in-7 : goal.returns-in-7
 unfolding seen party_after marks_after published_after
-returns-in-7 c = rw (ap place_of c.in-7.keys8) (c.decide.ensures, (refl, refl))
-
--- a number from b on that is none of four is past them
-past : (b k : ℕ) → b ≤ k → k ≢ b → k ≢ b + 1 → k ≢ b + 2 → k ≢ b + 3 → b + 4 ≤ k
-past b k h x y z w = omega arith
+returns-in-7 c = rw (ap place_of c.in-7.is) (c.decide.ensures, (refl, refl))

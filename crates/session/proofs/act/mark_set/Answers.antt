@@ -16,6 +16,7 @@ use Rattle.steps.specs.Step.{stamped}
 use Rattle.steps.proofs.Stamps.{stamped_none, stamped_same, stamped_more}
 use Rattle.session.proofs.act.mark_set.Invariants.{passed, member, low, both, none, kept, unit, no_unit, every}
 use Rattle.session.proofs.act.mark_set.Goals as goal
+use Rattle.session.proofs.act.mark_set.Goals.{then-mask-j-eq1, else-mask-j-eq1}
 
 pub loop-j-init : goal.loop-j-init
 loop-j-init c = let a = c.args in (search rules, stamped_none _ a.mark a.marks.now (none a.start a.mask))
@@ -23,7 +24,7 @@ loop-j-init c = let a = c.args in (search rules, stamped_none _ a.mark a.marks.n
 pub bounds-marks-start : goal.bounds-marks-start
 bounds-marks-start c =
     let a = c.args in
-    c.requires.1 _ (unit a.start a.mask c.loop-j-test.j c.way_told-1.true)
+    c.requires.1 _ (unit a.start a.mask c.loop-j.j c.if-mask-j-eq1.true)
 
 pub loop-j-preserved : goal.loop-j-preserved
 loop-j-preserved c =
@@ -33,16 +34,17 @@ loop-j-preserved c =
     let new = passed a.start a.mask (l.j + 1) in
     let same = kept a.start a.mask l.j in (
       search rules,
-      ⊎_elim
-          (λ w.
-          w.1 ∙ ap (λ (xs : List ℕ). set xs (a.start + l.j) a.mark) l.invariant.1
+      elim c.if-mask-j-eq1.branch [
+        then-mask-j-eq1 w ↦
+          w.marks-is
+          ∙ ap (λ (xs : List ℕ). set xs (a.start + l.j) a.mark) l.invariant.1
           ∙ stamped_more old new a.mark a.marks.now (a.start + l.j)
-          (both a.start a.mask (l.j + 1) (a.start + l.j) (unit a.start a.mask l.j w.0.taken) (omega arith))
-          (λ u n. same u (λ t. n)))
-          (λ w.
-          w.1 ∙ l.invariant.1
-          ∙ stamped_same old new a.mark a.marks.now (λ u. same u (no_unit a.start a.mask l.j u w.0.left)))
-          c.if-mask-j-eq1.branch,
+          (both a.start a.mask (l.j + 1) (a.start + l.j) (unit a.start a.mask l.j w.if-mask-j-eq1.true) (omega arith))
+          (λ u n. same u (λ t. n))
+        | else-mask-j-eq1 w ↦
+          w.marks-is ∙ l.invariant.1
+          ∙ stamped_same old new a.mark a.marks.now (λ u. same u (no_unit a.start a.mask l.j u w.if-mask-j-eq1.false))
+      ],
     )
 
 pub returns : goal.returns

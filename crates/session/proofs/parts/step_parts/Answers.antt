@@ -54,51 +54,83 @@ module _ (s : Session) (i : ℕ) where
       (λ j. put (marks-is j) (published-is j) (own_is j))
       ∙ ap (λ (k : List ℕ). put (marks_after (layout_of k) i p s.marks at) (published_after i p s.published at) (own k)) e
 
-abbrev session : tie.Start → Session
-session c = let a = c.args in of_parts a.sheet.now a.proposals.now a.marks.now a.published.now a.t5
-
-abbrev start : tie.After-asked → tie.Start
-start c = c.before.before.before
-
 pub overflow_sub-at : goal.overflow_sub-at
-overflow_sub-at c = (let known : Past (session (start c)) (start c).args.party = let told = c in past (session (start told)) (start told).args.party _ c.asked-reply.ensures (ap (λ r. (told_of r).number) c.enum_told-in_default-1.given.1) in known).least
+overflow_sub-at c =
+    let a = c.args in
+    let s = of_parts a.sheet.now a.proposals.now a.marks.now a.published.now a.parties in
+    let known = past s a.party _ c.asked-reply.ensures (ap (λ r. (told_of r).number) c.in_default.is) in
+    known.least
 
 pub bounds-parties-at : goal.bounds-parties-at
-bounds-parties-at c = omega (arith, (let known : Past (session (start c)) (start c).args.party = let told = c in past (session (start told)) (start told).args.party _ c.asked-reply.ensures (ap (λ r. (told_of r).number) c.enum_told-in_default-1.given.1) in known).few, (let known : Past (session (start c)) (start c).args.party = let told = c in past (session (start told)) (start told).args.party _ c.asked-reply.ensures (ap (λ r. (told_of r).number) c.enum_told-in_default-1.given.1) in known).least)
+bounds-parties-at c =
+    let a = c.args in
+    let s = of_parts a.sheet.now a.proposals.now a.marks.now a.published.now a.parties in
+    let known = past s a.party _ c.asked-reply.ensures (ap (λ r. (told_of r).number) c.in_default.is) in
+    omega (arith, known.few, known.least)
 
--- where the act is asked for
-abbrev live : tie.After-act-on-arg3 → tie.Else1
-live c = c.before.before.before.before.before
+pub returns-in-Refused : goal.returns-in-Refused
+returns-in-Refused c =
+    let a = c.args in
+    let s = of_parts a.sheet.now a.proposals.now a.marks.now a.published.now a.parties in
+    let r = refused s a.party (step s a.party) (place_acted s a.party) _ c.asked-reply.ensures
+    (λ z. omega (arith, refuses c.in-Refused.field-0, sym (ap (λ r. (told_of r).number) c.in-Refused.is) ∙ z)) in
+    record { parties_after = r.0; reply_value = r.1 }
 
-abbrev passes : tie.After-act-on-arg3 → tie.After-enum-told2
-passes c = (live c).before.before.before
-
-abbrev begins : tie.After-act-on-arg3 → tie.Start
-begins c = start (passes c).before.before
+pub returns-then-p-ge-DECIDED : goal.returns-then-p-ge-DECIDED
+returns-then-p-ge-DECIDED c =
+    let a = c.args in
+    let s = of_parts a.sheet.now a.proposals.now a.marks.now a.published.now a.parties in
+    let known = past s a.party _ c.asked-reply.ensures (ap (λ r. (told_of r).number) c.in_default.is) in
+    let same = stays s a.party (le-ltb (party_of s.parties a.party).status 2 (omega (arith, c.if-p-ge-DECIDED.true))) in
+    let r = answered s a.party (step s a.party) (place_acted s a.party) known in
+    record { parties_after = same.0 ∙ r.0; reply_value = ap (told 0) same.1 ∙ r.1 }
 
 pub overflow_cast-party : goal.overflow_cast-party
-overflow_cast-party c = omega (arith, (known (passes c)).few)
+overflow_cast-party c =
+    let a = c.args in
+    let s = of_parts a.sheet.now a.proposals.now a.marks.now a.published.now a.parties in
+    let known = past s a.party _ c.asked-reply.ensures (ap (λ r. (told_of r).number) c.in_default.is) in
+    omega (arith, known.few)
 
 pub act_on-requires : goal.act_on-requires
 act_on-requires c =
-    let len = c.way_told-1 in
-    let k = known (passes c) in
-    let s = session (begins c) in
-    let i = (begins c).args.party in
-    let words = (well_formed_says s).0 k.formed in
+    let a = c.args in
+    let s = of_parts a.sheet.now a.proposals.now a.marks.now a.published.now a.parties in
+    let known = past s a.party _ c.asked-reply.ensures (ap (λ r. (told_of r).number) c.in_default.is) in
+    let len = c.carried_length-len in
+    let whole : length a.sheet.now ≡ 1898 = search rules in
+    let front : take len.result a.sheet.now ≡ carried s = front_carried a.sheet.now 1898 len.result whole len.ensures in
+    let words = (well_formed_says s).0 known.formed in
     let n = parties_of s.sheet in
-    let ready : Ready (carried s) s.published i (party_of s.parties i) n =
+    let ready : Ready (carried s) s.published a.party (party_of s.parties a.party) n =
     record {
       rules = words.sheet.before;
-      parties = k.parties;
-      least = k.least;
-      most = omega (arith, k.most, k.parties);
-      party = subst (λ (m : ℕ). PartyRule m s.published i (party_of s.parties i)) (sym k.parties) (words.parties i k.least k.most);
-      live = (let lives : (party_of (session (begins c)).parties (begins c).args.party).status < 2 = omega (arith, (live c).if1.false) in lives);
+      parties = known.parties;
+      least = known.least;
+      most = omega (arith, known.most, known.parties);
+      party = subst (λ (m : ℕ). PartyRule m s.published a.party (party_of s.parties a.party)) (sym known.parties) (words.parties a.party known.least known.most);
+      live = omega (arith, c.if-p-ge-DECIDED.false);
     } in (
-      front_fits (begins c).args.sheet.now 1898 len.result (let whole : length (begins c).args.sheet.now ≡ 1898 = search rules in whole) len.ensures,
-      subst (λ (l : List ℕ). Ready l s.published i (party_of s.parties i) n) (sym (let front : take c.way_told-1.result (begins c).args.sheet.now ≡ carried (session (begins c)) = let len = c.way_told-1 in front_carried (begins c).args.sheet.now 1898 len.result (let whole : length (begins c).args.sheet.now ≡ 1898 = search rules in whole) len.ensures in front)) ready,
+      front_fits a.sheet.now 1898 len.result whole len.ensures,
+      subst (λ (l : List ℕ). Ready l s.published a.party (party_of s.parties a.party) n) (sym front) ready,
     )
 
 pub bounds-after-at : goal.bounds-after-at
-bounds-after-at c = let k = known (passes c) in omega (arith, k.few, k.least)
+bounds-after-at c =
+    let a = c.args in
+    let s = of_parts a.sheet.now a.proposals.now a.marks.now a.published.now a.parties in
+    let known = past s a.party _ c.asked-reply.ensures (ap (λ r. (told_of r).number) c.in_default.is) in
+    omega (arith, known.few, known.least)
+
+pub returns : goal.returns
+returns c =
+    let a = c.args in
+    let s = of_parts a.sheet.now a.proposals.now a.marks.now a.published.now a.parties in
+    let known = past s a.party _ c.asked-reply.ensures (ap (λ r. (told_of r).number) c.in_default.is) in
+    let len = c.carried_length-len in
+    let whole : length a.sheet.now ≡ 1898 = search rules in
+    let front : take len.result a.sheet.now ≡ carried s = front_carried a.sheet.now 1898 len.result whole len.ensures in
+    let went = acts s a.party (lt-ltb (party_of s.parties a.party).status 2 (omega (arith, c.if-p-ge-DECIDED.false))) in
+    let r = answered s a.party (step s a.party) (place_acted s a.party) known in
+    let put = puts s a.party _ _ _ c.act_on.result front c.act_on.ensures in
+    record { parties_after = put ∙ went.0 ∙ r.0; reply_value = ap (told 0) went.1 ∙ r.1 }

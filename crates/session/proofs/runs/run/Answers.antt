@@ -1,5 +1,6 @@
 -- Each refusal is that of the first test that fails, and then the output is untouched; past the tests the schedule is obeyed and the record written.
-use Prim.Native.Nat.{ℕ, ◌-◌, ◌≤◌}
+use Prim.Native.Nat.{ℕ, ◌-◌, ◌≤◌, ◌<◌, ◌^◌}
+use mathlib.Core.Bool.{Bool, false}
 use mathlib.Core.Path.{◌≡◌, refl, sym, ap, ◌∙◌}
 use mathlib.Core.List.{List, ◌++◌}
 use mathlib.Core.Logic.{◌≢◌}
@@ -25,23 +26,70 @@ use Rattle.steps.specs.Run.{byte_ok}
 use Rattle.steps.proofs.RunAnswers.{run_unopened, run_unscheduled, run_unfit, run_done, run_refused, out_written}
 use Rattle.session.proofs.runs.run.Goals as goal
 
--- ---- what the tests that are passed tell
--- the function's entry, from past the check
-abbrev entry : tie.After-shared-slice-known4 → tie.Start
-entry c = c.before.before.before.before.before.before.before.before
-
--- the first bad byte, as the definition has it
-abbrev first : tie.After-shared-slice-known4 → ℕ
-first c = first_bad (byte_ok (parties_of (entry c).args.sheet.now)) 1 (entry c).args.schedule.now
-
-some_bad : (c : tie.Then1) → first c.before.before ≢ 0
-some_bad c e =
-    let a = (entry c.before.before).args in
-    failed _ (sym c.before.schedule-ok.ensures ∙ not-true _ c.if1.true)
-    (none_first (byte_ok (parties_of a.sheet.now)) 1 a.schedule.now (omega arith) e)
+-- the bytes are not all good, so there is a first bad one
+some_bad : (n : ℕ) (schedule : List ℕ) (r : Bool) → r ≡ all (byte_ok n) schedule → r ≡ false → length schedule < 2 ^ 64 → first_bad (byte_ok n) 1 schedule ≢ 0
+some_bad n schedule r o f h e = failed _ (sym o ∙ f) (none_first (byte_ok n) 1 schedule (omega arith) e)
 
 pub overflow_sub-result : goal.overflow_sub-result
-overflow_sub-result c = let some = some_bad c in let e = c.first_bad_byte.ensures in omega arith
+overflow_sub-result c =
+    let a = c.args in
+    let some = some_bad (parties_of a.sheet.now) a.schedule.now _ c.schedule_ok.ensures c.if-not-schedule_ok.true (omega arith) in
+    let e = c.first_bad_byte.ensures in
+    omega arith
+
+pub returns-then-not-schedule_ok : goal.returns-then-not-schedule_ok
+returns-then-not-schedule_ok c =
+    let a = c.args in
+    let sheet = a.sheet.now in
+    let proposals = a.proposals.now in
+    let schedule = a.schedule.now in
+    let opening : done ≡ open_answer sheet proposals = sym (ap answer_of c.in_default.is) ∙ c.opens-verdict.ensures in
+    let some = some_bad (parties_of sheet) schedule _ c.schedule_ok.ensures c.if-not-schedule_ok.true (omega arith) in
+    let r = Schedule (c.first_bad_byte.result - 1) in
+    let e =
+    ap (λ (k : ℕ). answer 8 (k - 1)) c.first_bad_byte.ensures
+    ∙ run_unscheduled sheet proposals schedule a.out.now opening some in
+    let told = run_refused sheet proposals schedule a.out.now (Refused r) r refl e in
+    record { result_value = told.0; out_after = told.1 }
+
+pub returns-then-out-n : goal.returns-then-out-n
+returns-then-out-n c =
+    let a = c.args in
+    let sheet = a.sheet.now in
+    let proposals = a.proposals.now in
+    let schedule = a.schedule.now in
+    let opening : done ≡ open_answer sheet proposals = sym (ap answer_of c.in_default.is) ∙ c.opens-verdict.ensures in
+    let none = first_none _ 1 schedule (held _ (sym c.schedule_ok.ensures ∙ c.if-not-schedule_ok.false)) in
+    let e = run_unfit sheet proposals schedule a.out.now opening none (omega arith) in
+    let told = run_refused sheet proposals schedule a.out.now (Refused Output) Output refl e in
+    record { result_value = told.0; out_after = told.1 }
 
 pub obey-parties-requires : goal.obey-parties-requires
-obey-parties-requires c = let (rules, each) = (let says : Rules6 (entry c).args.sheet.now × (length (entry c).args.proposals.now ≡ parties_of (entry c).args.sheet.now) = opens_says (entry c).args.sheet.now (entry c).args.proposals.now (sym (let opening : done ≡ open_answer (entry c).args.sheet.now (entry c).args.proposals.now = sym (ap answer_of c.enum_told-in_default-1.given.1) ∙ c.opens-verdict.ensures in opening)) in says) in (rules, refl, each, (let all_good : T (all (byte_ok (parties_of (entry c).args.sheet.now)) (entry c).args.schedule.now) = held _ (sym c.schedule_ok.ensures ∙ c.if-not-schedule_ok.false) in all_good))
+obey-parties-requires c =
+    let a = c.args in
+    let sheet = a.sheet.now in
+    let proposals = a.proposals.now in
+    let schedule = a.schedule.now in
+    let opening : done ≡ open_answer sheet proposals = sym (ap answer_of c.in_default.is) ∙ c.opens-verdict.ensures in
+    let says = opens_says sheet proposals (sym opening) in
+    (says.0, refl, says.1, held _ (sym c.schedule_ok.ensures ∙ c.if-not-schedule_ok.false))
+
+pub returns : goal.returns
+returns c =
+    let a = c.args in
+    let sheet = a.sheet.now in
+    let proposals = a.proposals.now in
+    let schedule = a.schedule.now in
+    let opening : done ≡ open_answer sheet proposals = sym (ap answer_of c.in_default.is) ∙ c.opens-verdict.ensures in
+    let says = opens_says sheet proposals (sym opening) in
+    let few = says.0.before.before.before.header.parties_most in
+    let n = parties_of sheet in
+    let none = first_none _ 1 schedule (held _ (sym c.schedule_ok.ensures ∙ c.if-not-schedule_ok.false)) in
+    let e = run_done sheet proposals schedule a.out.now opening none (omega arith) in
+    record {
+      result_value = e;
+      out_after =
+        recorded n _ a.out.now _ few (omega arith) c.put_record.ensures
+        ∙ ap (λ (ps : List Party). record_bytes n ps ++ drop (record_length n) a.out.now) c.obey-parties.ensures
+        ∙ out_written sheet proposals schedule a.out.now e;
+    }
