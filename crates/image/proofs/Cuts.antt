@@ -1,6 +1,6 @@
 -- A list that is joined of parts, w long each, is cut into them again, each from where it stands; and the parts that a list is cut into join to it, by induction over them.
 use Prim.Native.Nat.{ℕ, zero, suc, ◌+◌, ◌*◌, ◌<◌}
-use mathlib.Core.Path.{◌≡◌, refl, sym, ap, ◌∙◌}
+use mathlib.Core.Path.{◌≡◌, sym, ap, ◌∙◌}
 use mathlib.Core.List.{List, [], ◌++◌, map}
 use native.Mathlib.Nat.{mul-zero, mul-suc, add_comm, zero-add}
 use native.Mathlib.Omega.{arith}
