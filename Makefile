@@ -47,7 +47,7 @@ stack: $(LIB)
 	@target/tests/stack
 
 # the archive and the lister come from one check, also with -j2: two at once in one folder are in each other's way
-target/bin/lister $(LIB) &: $(shell find crates -name '*.rt' -o -name '*.antt') crates.txt
+target/bin/lister $(LIB) &: $(shell find crates -path 'crates/*/out' -prune -o \( -name '*.rt' -o -name '*.antt' \) -print) crates.txt
 	@bash tools/prove
 
 clean:
