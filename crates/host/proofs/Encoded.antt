@@ -124,7 +124,7 @@ module _ (sheet proposals : List ℕ) (o : Opens sheet proposals) (low : Below 2
   calls_leave R [] = refl
   calls_leave {s} R (c ∷ cs) =
       ap (λ (b : List ℕ). after_all b cs) (call_leaves R c).0
-      ∙ calls_leave (next_reached sheet proposals R c) cs
+      ∙ calls_leave {s = next n s c} (next_reached sheet proposals R c) cs
       ∙ ap session_bytes (moved_next n s c cs)
 
   pub calls_number : {s : Session} → Reached sheet proposals s → (cs : List Move)
@@ -132,7 +132,7 @@ module _ (sheet proposals : List ℕ) (o : Opens sheet proposals) (low : Below 2
   calls_number R [] = refl
   calls_number {s} R (c ∷ cs) =
       let here = call_leaves R c in
-      let later = ap (λ (b : List ℕ). map (λ w. w % 256) (words_of b cs)) here.0 ∙ calls_number (next_reached sheet proposals R c) cs in
+      let later = ap (λ (b : List ℕ). map (λ w. w % 256) (words_of b cs)) here.0 ∙ calls_number {s = next n s c} (next_reached sheet proposals R c) cs in
       λ i. here.1 i ∷ later i
 
   -- ---- the acts of party i, by what the words say
@@ -158,7 +158,7 @@ module _ (sheet proposals : List ℕ) (o : Opens sheet proposals) (low : Below 2
     pub calls_acts : {s : Session} → Reached sheet proposals s → (cs : List Move) → said s cs ≡ acts s (party_calls n cs) i
     calls_acts R [] = refl
     calls_acts {s} R (c ∷ cs) =
-        let later = ap (λ (b : List ℕ). acts_told i cs (values_in (words_of b cs))) (call_leaves R c).0 ∙ calls_acts (next_reached sheet proposals R c) cs in
+        let later = ap (λ (b : List ℕ). acts_told i cs (values_in (words_of b cs))) (call_leaves R c).0 ∙ calls_acts {s = next n s c} (next_reached sheet proposals R c) cs in
         (λ k. cond (act_said R c k) (suc (later k)) (later k)) ∙ by (is_of_party n c)
       where
         by : (w : Bool)
