@@ -1,5 +1,5 @@
 -- The check of a sheet: the first rule that fails, in the order 1, 2, 3, 4, 5 for all rows, 6.
-use Rattle.std.specs.Prelude.{ℕ, List, Bool, not, ◌&&◌, cond, length, get_or, leb, ltb, eqb}
+use Rattle.std.specs.Prelude.{ℕ, List, Bool, not, ◌&&◌, cond, length, get_or, ltb, eqb}
 use Rattle.answers.specs.Answers.{Answer, answer, done}
 use Rattle.sheet.specs.Lists.{first_bad, within}
 use Rattle.sheet.specs.Bytes.{num}

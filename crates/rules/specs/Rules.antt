@@ -1,7 +1,7 @@
 -- The row rule and the writer rule, computed.
 use Rattle.std.specs.Prelude.{ℕ, Bool, not, ◌&&◌, ◌||◌, cond, eqb}
 use Rattle.sheet.specs.Lists.{all}
-use Rattle.sheet.specs.Sets.{in_set, legal, below, apart}
+use Rattle.sheet.specs.Sets.{legal, below, apart}
 use Rattle.sheet.specs.Rows.{Layout, slots, writes, is_top, same_slot}
 use Rattle.sheet.specs.declared.rows.Row.{Row}
 use Rattle.sheet.specs.declared.rows.Slot.{Slot}

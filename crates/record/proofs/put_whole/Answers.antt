@@ -1,13 +1,9 @@
 -- The loop's invariant: the head and the first p parties stand written, and past them all is as it was; a turn writes one party more.
-use Prim.Native.Nat.{ℕ, ◌+◌, ◌*◌, ◌-◌, ◌≤◌}
-use mathlib.Core.Path.{◌≡◌, refl, ap, ◌∙◌}
-use mathlib.Core.List.{◌++◌}
+use mathlib.Core.Path.{refl}
 use native.Mathlib.Omega.{arith}
-use lib.ListN.{length, drop, length-take, length-drop}
 use lib.Seq.{drop-cons}
 use borrow.Author.Rules.{rules}
-use Rattle.sheet.proofs.Parts.{Written, found, since}
-use Rattle.sheet.proofs.InTurn.{up_to, turn}
+use Rattle.sheet.proofs.InTurn.{turn}
 use Rattle.state.specs.Session.{no_party}
 use Rattle.record.specs.Record.{party_record, record_head}
 use Rattle.record.proofs.put_whole.Goals as goal

@@ -1,5 +1,5 @@
 -- The loop's invariant: the header and k rows stand written, p is the next row's, and past them all is as it was; a turn writes one row more.
-use Rattle.std.proofs.Common.{◌≡◌, ◌++◌, ◌+◌, ◌*◌, ◌-◌, refl, sym, ap, ◌∙◌, arith, ℕ, length, take, drop, rules}
+use Rattle.std.proofs.Common.{◌≡◌, ◌++◌, ◌+◌, ◌*◌, ◌-◌, refl, ap, ◌∙◌, arith, ℕ, length, take, drop, rules}
 use Rattle.sheet.specs.Rows.{slots, row_count}
 use Rattle.sheet.specs.declared.rows.Row.{Row}
 use Rattle.sheet.proofs.Parts.{Written, since}

@@ -1,18 +1,14 @@
 -- The loop's invariant: the header and k rows stand written, p is the next row's, and past them all is as it was; a turn writes one row more.
 use Prim.Native.Nat.{ℕ, ◌+◌, ◌*◌, ◌-◌, ◌≤◌}
-use mathlib.Core.Path.{◌≡◌, refl, sym, ap, ◌∙◌}
-use mathlib.Core.List.{List, ◌++◌}
-use native.Mathlib.Omega.{arith}
-use lib.ListN.{length, take, drop, length-take, length-drop}
-use borrow.Author.Rules.{rules}
+use mathlib.Core.Path.{◌≡◌}
+use mathlib.Core.List.{List}
+use lib.ListN.{length}
 use Rattle.sheet.specs.Rows.{slots, row_count}
-use Rattle.sheet.specs.Words.{IsSlot}
-use Rattle.sheet.specs.declared.rows.Row.{Row}
 use Rattle.sheet.specs.declared.rows.Slot.{Slot}
-use Rattle.sheet.proofs.Parts.{Written, found, since}
-use Rattle.sheet.proofs.InTurn.{up_to, turn, turned}
-use Rattle.sheet.proofs.Slots.{AtRow, after_next, at_first, at_next, at_slot, length_slots, slots_step}
-use Rattle.builder.specs.Build.{row_bytes, header_bytes, built_units, built_row, built_sheet}
+use Rattle.sheet.proofs.Parts.{Written}
+use Rattle.sheet.proofs.InTurn.{up_to}
+use Rattle.sheet.proofs.Slots.{AtRow}
+use Rattle.builder.specs.Build.{row_bytes, header_bytes, built_units, built_row}
 use Rattle.builder.proofs.building.put_sheet.Given as goal
 
 module _ (kind bound : ℕ) where

@@ -1,14 +1,12 @@
 -- A round's word starts at most at 14 × 64 and its powers are below 2 ^ 33, so all fits; the masks are the closed forms of their units.
-use Prim.Native.Nat.{ℕ, ◌+◌, ◌-◌, ◌*◌, ◌^◌, ◌≤◌}
+use Prim.Native.Nat.{ℕ, ◌-◌, ◌*◌, ◌^◌, ◌≤◌}
 use mathlib.Core.Path.{sym, ap, ap₂, ◌∙◌}
-use native.Mathlib.Nat.{mul-le-mul}
 use native.Mathlib.Omega.{arith}
-use borrow.Author.Rules.{rules}
-use borrow.Author.Tests.{eq-eqb, ne_eqb}
+use borrow.Author.Tests.{eq-eqb}
 use lib.Pow.{pow_mono}
 use Rattle.sheet.specs.declared.rows.Row.{Row}
-use Rattle.builder.specs.Build.{word_of, own_unit, pair_unit}
-use Rattle.builder.proofs.Masks.{top_mask, lower_mask}
+use Rattle.builder.specs.Build.{word_of, own_unit}
+use Rattle.builder.proofs.Masks.{top_mask}
 use Rattle.builder.proofs.building.word_row.Goals as goal
 
 pub overflow_sub-result : goal.overflow_sub-result

@@ -1,16 +1,11 @@
 -- So far no row failed, and the test of the row that is read is the row rule of its slot.
 use Prim.Native.Nat.{◌-◌}
-use mathlib.Core.Path.{◌≡◌, refl, sym, ◌∙◌}
-use native.Mathlib.Omega.{arith}
-use borrow.Author.Rules.{rules}
-use borrow.Author.Tests.{not-true, not-false}
+use mathlib.Core.Path.{◌≡◌}
 use lib.ListN.{get_or}
 use Rattle.sheet.specs.Bytes.{num}
-use Rattle.sheet.specs.Rows.{is_top, layout_of}
-use Rattle.rules.specs.Rules.{row_fits, row_rule}
-use Rattle.sheet.proofs.Numbers.{num_two}
-use Rattle.sheet.proofs.Folds.{held, failed}
-use Rattle.rules.proofs.RowLoop.{Going, Passed, going_first, going_row, going_place, going_on, passed_on, passed_here, passed_end}
+use Rattle.sheet.specs.Rows.{layout_of}
+use Rattle.rules.specs.Rules.{row_rule}
+use Rattle.rules.proofs.RowLoop.{Going, Passed}
 use Rattle.rules.proofs.shape.first_bad_row.Given as goal
 
 abbrev pub invariant-loop-k : goal.invariant-loop-k

@@ -1,16 +1,11 @@
 -- At j the rows from j on are left to test; a row that passes leaves one less, and one that fails settles the answer.
-use Prim.Native.Nat.{ℕ, ◌+◌, ◌-◌, ◌≤◌}
-use mathlib.Core.Bool.{Bool}
-use mathlib.Core.List.{List}
-use mathlib.Core.Path.{◌≡◌, refl, sym, ap, ◌∙◌}
+use Prim.Native.Nat.{◌+◌, ◌-◌}
+use mathlib.Core.Path.{◌≡◌, sym, ap, ◌∙◌}
 use native.Mathlib.Omega.{arith}
-use borrow.Author.Rules.{rules}
-use borrow.Author.Tests.{not-true, not-false}
 use Rattle.rules.specs.Quick.{beside}
 use Rattle.sheet.specs.Rows.{row_at}
-use Rattle.sheet.specs.declared.rows.Row.{Row}
 use Rattle.sheet.specs.declared.rows.Taken.{Taken}
-use Rattle.sheet.proofs.Folds.{Down, down_first, down_on, down_here, down_end, held, failed}
+use Rattle.sheet.proofs.Folds.{down_on, down_here, held, failed}
 use Rattle.sheet.proofs.Numbers.{taken_row}
 use Rattle.rules.proofs.writers.alone_in_round.Invariants.{beside_at}
 use Rattle.rules.proofs.writers.alone_in_round.Goals as goal

@@ -2,16 +2,11 @@
 use Prim.Native.Nat.{ℕ, ◌+◌, ◌-◌, ◌≤◌}
 use mathlib.Core.Bool.{Bool}
 use mathlib.Core.List.{List}
-use mathlib.Core.Path.{◌≡◌, refl, sym, ap, ◌∙◌}
-use native.Mathlib.Omega.{arith}
-use borrow.Author.Rules.{rules}
-use borrow.Author.Tests.{not-true, not-false}
+use mathlib.Core.Path.{◌≡◌}
 use Rattle.rules.specs.Quick.{beside}
 use Rattle.sheet.specs.Rows.{row_at}
 use Rattle.sheet.specs.declared.rows.Row.{Row}
-use Rattle.sheet.specs.declared.rows.Taken.{Taken}
-use Rattle.sheet.proofs.Folds.{Down, down_first, down_on, down_here, down_end, held, failed}
-use Rattle.sheet.proofs.Numbers.{taken_row}
+use Rattle.sheet.proofs.Folds.{Down}
 use Rattle.rules.proofs.writers.alone_in_round.Given as goal
 
 abbrev pub beside_at : List ℕ → ℕ → ℕ → ℕ → Row → ℕ → Bool

@@ -1,15 +1,10 @@
 -- The edge at place k, carried over the slots that are left, is the edge over all slots.
-use Prim.Native.Nat.{◌-◌}
-use mathlib.Core.Bool.{true}
-use mathlib.Core.Path.{◌≡◌, refl, sym, ap, ◌∙◌}
-use native.Mathlib.Omega.{arith}
-use borrow.Author.Rules.{rules}
+use mathlib.Core.Path.{sym, ap, ◌∙◌}
 use lib.Dec.{eqb}
-use lib.ListN.{drop}
-use Rattle.rules.specs.Quick.{edge, edge_after, edge_over}
-use Rattle.sheet.specs.Rows.{slots, layout_of, parties_of}
+use Rattle.rules.specs.Quick.{edge_after, edge_over}
+use Rattle.sheet.specs.Rows.{layout_of}
 use Rattle.rules.specs.declared.writers.Edge.{Edge}
-use Rattle.rules.proofs.RowLoop.{Going, going_first, going_row, going_place, going_on, going_left, going_end}
+use Rattle.rules.proofs.RowLoop.{going_row, going_place, going_on, going_left, going_end}
 use Rattle.rules.proofs.writers.ascends.Goals as goal
 
 pub loop-k-preserved : goal.loop-k-preserved

@@ -1,15 +1,11 @@
 -- The edge at place k, carried over the slots that are left, is the edge over all slots.
 use Prim.Native.Nat.{◌-◌}
 use mathlib.Core.Bool.{true}
-use mathlib.Core.Path.{◌≡◌, refl, sym, ap, ◌∙◌}
-use native.Mathlib.Omega.{arith}
-use borrow.Author.Rules.{rules}
-use lib.Dec.{eqb}
+use mathlib.Core.Path.{◌≡◌}
 use lib.ListN.{drop}
-use Rattle.rules.specs.Quick.{edge, edge_after, edge_over}
+use Rattle.rules.specs.Quick.{edge, edge_over}
 use Rattle.sheet.specs.Rows.{slots, layout_of, parties_of}
-use Rattle.rules.specs.declared.writers.Edge.{Edge}
-use Rattle.rules.proofs.RowLoop.{Going, going_first, going_row, going_place, going_on, going_left, going_end}
+use Rattle.rules.proofs.RowLoop.{Going}
 use Rattle.rules.proofs.writers.ascends.Given as goal
 
 abbrev pub invariant-loop-k : goal.invariant-loop-k

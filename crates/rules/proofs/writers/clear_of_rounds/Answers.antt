@@ -1,18 +1,11 @@
 -- At place k the slots from k on are left to test; a row that passes leaves one less, and one that fails settles the answer.
-use Prim.Native.Nat.{ℕ, ◌-◌}
-use mathlib.Core.Bool.{Bool, ◌||◌}
-use mathlib.Core.List.{List}
-use mathlib.Core.Path.{◌≡◌, refl, sym, ap, ◌∙◌}
-use native.Mathlib.Omega.{arith}
-use borrow.Author.Rules.{rules}
-use borrow.Author.Tests.{not-true, not-false}
+use mathlib.Core.Bool.{◌||◌}
+use mathlib.Core.Path.{◌≡◌, sym, ap, ◌∙◌}
 use lib.Dec.{eqb}
-use Rattle.sheet.specs.Rows.{layout_of}
 use Rattle.sheet.specs.Sets.{apart}
 use Rattle.sheet.specs.declared.rows.Row.{Row}
-use Rattle.sheet.specs.declared.rows.Slot.{Slot}
 use Rattle.sheet.proofs.Folds.{held, failed}
-use Rattle.rules.proofs.RowLoop.{Going, Left, going_first, going_row, going_place, going_on, left_on, left_here, left_end}
+use Rattle.rules.proofs.RowLoop.{going_row, going_place, going_on, left_on, left_here, left_end}
 use Rattle.rules.proofs.writers.clear_of_rounds.Invariants.{clear_of}
 use Rattle.rules.proofs.writers.clear_of_rounds.Goals as goal
 

@@ -2,17 +2,12 @@
 use Prim.Native.Nat.{ℕ, ◌-◌}
 use mathlib.Core.Bool.{Bool, ◌||◌}
 use mathlib.Core.List.{List}
-use mathlib.Core.Path.{◌≡◌, refl, sym, ap, ◌∙◌}
-use native.Mathlib.Omega.{arith}
-use borrow.Author.Rules.{rules}
-use borrow.Author.Tests.{not-true, not-false}
 use lib.Dec.{eqb}
 use Rattle.sheet.specs.Rows.{layout_of}
 use Rattle.sheet.specs.Sets.{apart}
 use Rattle.sheet.specs.declared.rows.Row.{Row}
 use Rattle.sheet.specs.declared.rows.Slot.{Slot}
-use Rattle.sheet.proofs.Folds.{held, failed}
-use Rattle.rules.proofs.RowLoop.{Going, Left, going_first, going_row, going_place, going_on, left_on, left_here, left_end}
+use Rattle.rules.proofs.RowLoop.{Going, Left}
 use Rattle.rules.proofs.writers.clear_of_rounds.Given as goal
 
 abbrev pub clear_of : List ℕ → ℕ → Row → Slot → Bool

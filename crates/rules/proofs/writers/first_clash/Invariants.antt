@@ -1,12 +1,8 @@
 -- So far no row failed, and what `writer_fits` says of the next is the quick test of its slot.
 use Prim.Native.Nat.{◌-◌}
-use mathlib.Core.Path.{refl, sym, ◌∙◌}
-use borrow.Author.Rules.{rules}
-use borrow.Author.Tests.{not-true, not-false}
 use Rattle.rules.specs.Quick.{quick_rule}
 use Rattle.sheet.specs.Rows.{layout_of}
-use Rattle.sheet.proofs.Folds.{held, failed}
-use Rattle.rules.proofs.RowLoop.{Going, Passed, going_first, going_slot, going_on, passed_on, passed_here, passed_end}
+use Rattle.rules.proofs.RowLoop.{Going, Passed}
 use Rattle.rules.proofs.writers.first_clash.Given as goal
 
 abbrev pub invariant-loop-k : goal.invariant-loop-k

@@ -1,5 +1,4 @@
 -- Each part is filled with zeros, and a party with zeros is a fresh party 0.
-use borrow.Author.Rules.{rules}
 use lib.ListN.{replicate}
 use Rattle.state.proofs.opening.blank_session.Goals as goal
 

@@ -1,5 +1,5 @@
 -- The parties are filled from the front, party i at place i - 1, up to the 16th.
-use Prim.Native.Nat.{ℕ, ◌+◌, ◌-◌, ◌≤◌, min}
+use Prim.Native.Nat.{ℕ, ◌+◌, ◌-◌, min}
 use mathlib.Core.Path.{◌≡◌, refl, sym, ap, ◌∙◌}
 use mathlib.Core.List.{◌++◌, map}
 use borrow.Author.Rules.{rules}
@@ -7,7 +7,7 @@ use native.Mathlib.Omega.{arith}
 use lib.ListN.{length, replicate}
 use Rattle.sheet.specs.Lists.{from}
 use Rattle.state.specs.Session.{fresh_party, no_party}
-use Rattle.state.proofs.Copies.{Front, front_first, front_on, front_end, length_range, range_at}
+use Rattle.state.proofs.Copies.{front_on, front_end, length_range, range_at}
 use Rattle.state.proofs.opening.fresh_parties.Goals as goal
 
 pub loop-at-preserved : goal.loop-at-preserved

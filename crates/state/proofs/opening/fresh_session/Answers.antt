@@ -1,6 +1,5 @@
 -- Each part is what the call that makes it promises, or filled with zeros; 16 proposals and parties are as many as there are at most.
 use mathlib.Core.Path.{◌∙◌}
-use borrow.Author.Rules.{rules}
 use lib.ListN.{replicate}
 use Rattle.state.proofs.Filled.{filled_taken, fresh_taken}
 use Rattle.state.proofs.opening.fresh_session.Goals as goal

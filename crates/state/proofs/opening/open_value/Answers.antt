@@ -1,6 +1,5 @@
 -- The verdict is the answer, and it decides which session is given; where it is done the sheet keeps every rule, so its counts and lengths fit a session.
 use mathlib.Core.Path.{◌≡◌, sym, ap, ◌∙◌}
-use borrow.Author.Rules.{rules}
 use native.Mathlib.Omega.{arith}
 use lib.ListN.{length}
 use Rattle.sheet.specs.Rows.{parties_of}
@@ -8,8 +7,7 @@ use Rattle.answers.specs.Answers.{done, answer_of}
 use Rattle.rules.specs.Words.{Rules6}
 use Rattle.state.specs.Opening.{open_answer}
 use Rattle.state.proofs.Filled.{sheet_most}
-use Rattle.answers.proofs.Verdicts.{refused_number}
-use Rattle.state.proofs.Openings.{opens_says, opened_blank, opened_fresh}
+use Rattle.state.proofs.Openings.{opens_says}
 use Rattle.state.proofs.opening.open_value.Goals as goal
 
 pub fresh_session-session-requires : goal.fresh_session-session-requires

@@ -1,11 +1,7 @@
 -- The copy is filled from the front, one by one, up to the first 16.
 use Prim.Native.Nat.{◌-◌, ◌≤◌}
-use mathlib.Core.Path.{refl, sym}
-use borrow.Author.Rules.{rules}
-use native.Mathlib.Omega.{arith}
-use lib.ListN.{take, length-take}
-use lib.Seq.{get_or-take}
-use Rattle.state.proofs.Copies.{Front, front_first, front_on, front_end}
+use lib.ListN.{take}
+use Rattle.state.proofs.Copies.{Front}
 use Rattle.state.proofs.opening.proposals_copy.Given as goal
 
 abbrev pub invariant-loop-j : goal.invariant-loop-j

@@ -1,10 +1,6 @@
 -- The copy is filled from the front, byte by byte.
-use Prim.Native.Nat.{◌-◌, ◌≤◌}
-use mathlib.Core.Path.{refl}
-use borrow.Author.Rules.{rules}
 use native.Mathlib.Omega.{arith}
-use lib.ListN.{length}
-use Rattle.state.proofs.Copies.{Front, front_first, front_on, front_end}
+use Rattle.state.proofs.Copies.{front_end}
 use Rattle.state.proofs.opening.sheet_copy.Goals as goal
 
 pub returns : goal.returns

@@ -1,12 +1,6 @@
 -- At u the marks from u on are left to test; one that is at most its most leaves one less, and another settles the answer.
-use Prim.Native.Nat.{ℕ, ◌-◌}
-use mathlib.Core.Bool.{Bool, cond}
-use mathlib.Core.List.{List}
 use mathlib.Core.Path.{sym}
-use borrow.Author.Rules.{rules}
-use lib.Dec.{leb, ltb}
-use lib.ListN.{get_or}
-use Rattle.sheet.proofs.Folds.{Down, down_first, down_on, down_here, down_end}
+use Rattle.sheet.proofs.Folds.{down_on, down_here}
 use Rattle.state.proofs.Tested.{under, above}
 use Rattle.state.proofs.wellformed.marks_ok.Invariants.{mark_ok}
 use Rattle.state.proofs.wellformed.marks_ok.Goals as goal

@@ -2,12 +2,9 @@
 use Prim.Native.Nat.{ℕ, ◌-◌}
 use mathlib.Core.Bool.{Bool, cond}
 use mathlib.Core.List.{List}
-use mathlib.Core.Path.{sym}
-use borrow.Author.Rules.{rules}
 use lib.Dec.{leb, ltb}
 use lib.ListN.{get_or}
-use Rattle.sheet.proofs.Folds.{Down, down_first, down_on, down_here, down_end}
-use Rattle.state.proofs.Tested.{under, above}
+use Rattle.sheet.proofs.Folds.{Down}
 use Rattle.state.proofs.wellformed.marks_ok.Given as goal
 
 abbrev pub mark_ok : List ℕ → ℕ → ℕ → Bool

@@ -2,15 +2,11 @@
 use Prim.Native.Nat.{ℕ, ◌-◌, ◌≤◌}
 use mathlib.Core.Bool.{Bool, cond}
 use mathlib.Core.List.{List}
-use mathlib.Core.Path.{sym}
-use native.Mathlib.Omega.{arith}
-use borrow.Author.Rules.{rules}
 use lib.Dec.{leb}
-use Rattle.sheet.proofs.Folds.{Down, down_first, down_on, down_here, down_end, held, failed}
+use Rattle.sheet.proofs.Folds.{Down}
 use Rattle.state.specs.Session.{party_of}
 use Rattle.state.specs.WellFormed.{party_ok, unused_ok}
 use Rattle.state.specs.declared.kept.Party.{Party}
-use Rattle.state.proofs.Tested.{passed, stopped}
 use Rattle.state.proofs.wellformed.parties_ok.Given as goal
 
 abbrev pub entry_ok : ℕ → List ℕ → List Party → ℕ → Bool

@@ -3,8 +3,6 @@ use Rattle.std.proofs.Common.{true, [], ◌∷◌, get_or}
 use Rattle.sheet.specs.Bytes.{big}
 use mathlib.Core.Path.{◌≡◌, sym, ap, ◌∙◌}
 use Prim.Native.Nat.{ℕ, ◌≤◌}
-use native.Mathlib.Omega.{arith}
-use borrow.Author.Rules.{rules}
 use Rattle.sheet.specs.Rows.{parties_of}
 use Rattle.rules.specs.Words.{Rules6}
 use Rattle.sheet.proofs.Folds.{held, fails, failed}

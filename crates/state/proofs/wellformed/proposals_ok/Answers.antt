@@ -1,7 +1,5 @@
 -- The proposals past the parties are tested in turn.
-use Prim.Native.Nat.{◌-◌}
-use borrow.Author.Rules.{rules}
-use Rattle.state.proofs.Zeros.{Left, left_first, left_on, left_here, left_end}
+use Rattle.state.proofs.Zeros.{left_on}
 use Rattle.state.proofs.wellformed.proposals_ok.Goals as goal
 
 pub loop-j-preserved : goal.loop-j-preserved

@@ -1,7 +1,6 @@
 -- The proposals past the parties are tested in turn.
 use Prim.Native.Nat.{◌-◌}
-use borrow.Author.Rules.{rules}
-use Rattle.state.proofs.Zeros.{Left, left_first, left_on, left_here, left_end}
+use Rattle.state.proofs.Zeros.{Left}
 use Rattle.state.proofs.wellformed.proposals_ok.Given as goal
 
 abbrev pub invariant-loop-j : goal.invariant-loop-j

@@ -2,13 +2,10 @@
 use Prim.Native.Nat.{ℕ, ◌+◌, ◌-◌, ◌/◌, ◌%◌}
 use mathlib.Core.Bool.{Bool, cond}
 use mathlib.Core.List.{List}
-use mathlib.Core.Path.{sym}
-use borrow.Author.Rules.{rules}
 use lib.Dec.{leb}
 use lib.ListN.{get_or}
-use Rattle.sheet.proofs.Folds.{Down, down_first, down_on, down_here, down_end}
+use Rattle.sheet.proofs.Folds.{Down}
 use Rattle.state.specs.WellFormed.{is_lower}
-use Rattle.state.proofs.Tested.{under, above}
 use Rattle.state.proofs.wellformed.published_ok.Given as goal
 
 abbrev pub entry_ok : List ℕ → ℕ → ℕ → Bool

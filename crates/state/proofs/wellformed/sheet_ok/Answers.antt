@@ -11,7 +11,7 @@ use Rattle.sheet.specs.Lists.{from, all}
 use Rattle.rules.specs.Check.{check_answer}
 use Rattle.state.specs.Session.{carried_of}
 use Rattle.state.proofs.Tested.{passed, stopped, last, ends}
-use Rattle.state.proofs.Carried.{front_fits, front_carried, length_carried}
+use Rattle.state.proofs.Carried.{front_carried, length_carried}
 use Rattle.state.proofs.wellformed.sheet_ok.Goals as goal
 
 -- what is lent to the check is the carried sheet, so its answer is said of that

@@ -1,8 +1,6 @@
 -- The bytes from the start on are tested in turn.
-use Prim.Native.Nat.{◌-◌}
-use borrow.Author.Rules.{rules}
 use lib.ListN.{length}
-use Rattle.state.proofs.Zeros.{Left, left_first, left_on, left_here, left_end}
+use Rattle.state.proofs.Zeros.{left_on}
 use Rattle.state.proofs.wellformed.zeros_from.Goals as goal
 
 pub loop-j-preserved : goal.loop-j-preserved

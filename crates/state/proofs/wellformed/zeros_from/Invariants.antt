@@ -1,8 +1,7 @@
 -- The bytes from the start on are tested in turn.
 use Prim.Native.Nat.{◌-◌}
-use borrow.Author.Rules.{rules}
 use lib.ListN.{length}
-use Rattle.state.proofs.Zeros.{Left, left_first, left_on, left_here, left_end}
+use Rattle.state.proofs.Zeros.{Left}
 use Rattle.state.proofs.wellformed.zeros_from.Given as goal
 
 abbrev pub invariant-loop-j : goal.invariant-loop-j
