@@ -63,3 +63,23 @@ put_none o a = record { place = sym (add-zero a); bytes = rw (add-zero a) (sym (
 -- at the front
 pub put_front : {o t p : List ℕ} {b : ℕ} → Put o 0 t p b → (b ≡ length t) × (p ≡ t ++ drop (length t) o)
 put_front {o} {t} {p} {b} x = (x.place ∙ zero-add (length t), x.bytes ∙ ap (λ (i : ℕ). t ++ drop i o) (zero-add (length t)))
+
+-- ---- four parts, one behind the other: each has the room that those before it leave
+
+pub four_second : (v x w y : List ℕ) {o p : List ℕ} {at a : ℕ} → at + length (v ++ (x ++ (w ++ y))) ≤ length o → Put o at v p a → a + length x ≤ length p
+four_second v x w y h f = room_first x (w ++ y) _ _ (room_then (x ++ (w ++ y)) h f)
+
+pub four_third : (v x w y : List ℕ) {o p q : List ℕ} {at a b : ℕ} → at + length (v ++ (x ++ (w ++ y))) ≤ length o → Put o at v p a → Put p a x q b
+    → b + length w ≤ length q
+four_third v x w y h f g = room_first w y _ _ (room_then (w ++ y) (room_then (x ++ (w ++ y)) h f) g)
+
+pub four_fourth : (v x w y : List ℕ) {o p q r : List ℕ} {at a b c : ℕ} → at + length (v ++ (x ++ (w ++ y))) ≤ length o → Put o at v p a → Put p a x q b
+    → Put q b w r c → c + length y ≤ length r
+four_fourth v x w y h f g i = room_then y (room_then (w ++ y) (room_then (x ++ (w ++ y)) h f) g) i
+
+pub four_put : (v x w y : List ℕ) {o p q r s : List ℕ} {at a b c d : ℕ} → at + length (v ++ (x ++ (w ++ y))) ≤ length o → Put o at v p a → Put p a x q b
+    → Put q b w r c → Put r c y s d → Put o at (v ++ (x ++ (w ++ y))) s d
+four_put v x w y h f g i j =
+    put_then h f
+    (put_then (room_then (x ++ (w ++ y)) h f) g
+    (put_then (room_then (w ++ y) (room_then (x ++ (w ++ y)) h f) g) i j))

@@ -4,12 +4,33 @@
 mod listing;
 mod text;
 
-use libc::{STDIN_FILENO, STDOUT_FILENO};
+ghost use Rattle.std.specs.Prelude.{◌<◌, ◌≤◌, length, take, IfOk};
+ghost use Rattle.std.specs.Io.KnownBytes.{Consumes, IsAtEnd};
 
-fn main() {
-    let mut schedule = io::buffer();
-    let n = io::read_full(STDIN_FILENO, &mut schedule);
+use std::io;
+use std::io::Read;
+
+// Reads until the buffer is full or the input ends, and answers how many bytes were read; what is behind a full buffer stays unread.
+fn fill<R: Read>(input: &mut R, buffer: &mut [u8]) -> io::Result<usize>
+    ensures within { IfOk result (λ n. n ≤ length buffer.new) }
+    ensures bytes { IfOk result (λ n. Consumes (R.remaining input.old) (R.remaining input.new) (take n buffer.new)) }
+    ensures end { IfOk result (λ n. n < length buffer.new → IsAtEnd (R.remaining input.new)) }
+{
+    let mut n = 0;
+    while n < buffer.len() {
+        let got = input.read(&mut buffer[n..])?;
+        if got == 0 {
+            break;
+        }
+        n += got;
+    }
+    Ok(n)
+}
+
+fn main(rt: HostRuntime) -> io::Result<()> {
+    let mut schedule = [0u8; 4096];
+    let n = fill(&mut rt.stdin(), &mut schedule)?;
     let mut out = [0u8; 512];
     let len = listing::list(&schedule[..n], &mut out);
-    io::write_all(STDOUT_FILENO, &out[..len]);
+    rt.write_all(&out[..len])
 }
