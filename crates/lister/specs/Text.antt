@@ -1,5 +1,5 @@
 -- The text that the lister prints, in ASCII bytes, and how it is put into a buffer.
-use Rattle.std.specs.Prelude.{ℕ, zero, suc, ◌+◌, ◌*◌, ◌/◌, ◌%◌, ◌≡◌, List, [], ◌∷◌, ◌++◌, map, cond, length, get_or, take, drop, ltb, eqb}
+use Rattle.std.specs.Prelude.{ℕ, zero, suc, ◌+◌, ◌/◌, ◌%◌, ◌≡◌, List, [], ◌∷◌, ◌++◌, map, cond, length, take, drop, ltb, eqb}
 use Rattle.sheet.specs.Lists.{from, flat}
 use Rattle.record.specs.Record.{parties_in, status_after, steps_after, decision_after}
 
