@@ -1,13 +1,12 @@
 -- Demand 3 is what is proved of reached sessions, brought to schedules, to calls, to the record and to built sheets.
 use Prim.Native.Nat.{ℕ, ◌≤◌}
 use mathlib.Core.List.{List, ◌++◌}
-use mathlib.Core.Path.{◌≡◌, refl, sym, ap, ◌∙◌, subst, subst₂}
+use mathlib.Core.Path.{◌≡◌, sym, ap, ◌∙◌, subst, subst₂}
 use lib.Dec.{T}
 use lib.ListN.{length}
 use Rattle.sheet.specs.Rows.{parties_of}
 use Rattle.sheet.specs.Lists.{all}
 use Rattle.sheet.proofs.Folds.{and_both, all_append}
-use Rattle.rules.specs.Words.{Rules6}
 use Rattle.builder.specs.Build.{built_sheet}
 use Rattle.builder.proofs.Theorems.{built_says}
 use Rattle.state.specs.Session.{fresh_session, party_of}
@@ -27,10 +26,10 @@ use Rattle.steps.proofs.Obeying.{obeyed_reached}
 use Rattle.steps.proofs.RunCalls.{run_calls, run_told, run_acts}
 use Rattle.steps.proofs.Schedules.{obeyed_append}
 use Rattle.steps.proofs.Tally.{steps_acts, way_acts}
-use Rattle.agreement.specs.Demand.{Opens, proposal_of, Demanded, LastingRead}
-use Rattle.agreement.specs.Statements.{OfReached, OverRules, OfSchedule, OfCalls, OfRecord, Words, OfOpening, OverOpenings, OverBuilt}
+use Rattle.agreement.specs.Demand.{Opens}
+use Rattle.agreement.specs.Statements.{OverRules, OfSchedule, OfCalls, OfRecord, Words, OverOpenings, OverBuilt}
 use Rattle.agreement.proofs.Demands.{rules, demand}
-use Rattle.agreement.proofs.Readings.{Reads, reads_itself, read, read_lasting}
+use Rattle.agreement.proofs.Readings.{reads_itself, read, read_lasting}
 use Rattle.agreement.proofs.Record.{answered, reads_record}
 
 -- ---- over the rules

@@ -1,5 +1,5 @@
 -- Demand 3 of the host's calls is that of the moves which they stand for, read off the bytes of the session that they lead to; of its run that of the record.
-use Prim.Native.Nat.{ℕ, ◌-◌, ◌*◌, ◌%◌, ◌^◌, ◌≤◌, ◌<◌}
+use Prim.Native.Nat.{ℕ, ◌*◌, ◌%◌, ◌≤◌}
 use mathlib.Core.Path.{◌≡◌, refl, sym, ap, ◌∙◌, subst, subst⁻¹, subst₂}
 use mathlib.Core.Logic.{⊎_elim}
 use mathlib.Core.List.{List, [], ◌++◌, map}
@@ -7,7 +7,7 @@ use mathlib.Core.Bool.{cond}
 use native.Mathlib.Omega.{arith}
 use borrow.Author.Tests.{eq-eqb, eqb-true}
 use lib.Dec.{T, eqb}
-use lib.ListN.{length, get_or, drop}
+use lib.ListN.{length, drop}
 use Rattle.sheet.specs.Rows.{parties_of}
 use Rattle.sheet.specs.Lists.{all}
 use Rattle.sheet.proofs.Folds.{and_right, all_append, lt_or_le}

@@ -1,13 +1,13 @@
 -- Steps and stops in a row lead on from where a way has come to, and a schedule's bytes are such: inductions over the row.
-use Prim.Native.Nat.{ℕ, ◌+◌, ◌-◌, ◌≤◌, ◌<◌}
+use Prim.Native.Nat.{ℕ, ◌-◌, ◌≤◌}
 use mathlib.Core.Path.{◌≡◌, refl, sym, ap, ◌∙◌, subst}
 use mathlib.Core.List.{List, [], ◌∷◌, ◌++◌, append_assoc, append-nil}
 use mathlib.Core.Bool.{Bool, true, false, cond}
 use native.Mathlib.Omega.{arith}
 use borrow.Author.Tests.{ltb-true, ltb-false}
 use lib.Dec.{T, ltb}
-use Rattle.sheet.specs.Lists.{all, within}
-use Rattle.sheet.proofs.Folds.{and_left, and_right, held}
+use Rattle.sheet.specs.Lists.{all}
+use Rattle.sheet.proofs.Folds.{and_left, and_right}
 use Rattle.state.specs.declared.kept.Session.{Session}
 use Rattle.steps.specs.Step.{step, stop}
 use Rattle.steps.specs.Moves.{Move, step_of, stop_of, whose, moved, moved_by}

@@ -1,7 +1,6 @@
 -- The front of the schedule is run with no room for a record: where that alone refuses it, the byte behind the front is the first bad one.
 use mathlib.Core.Path.{sym, ap, ◌∙◌}
 use native.Mathlib.Omega.{arith}
-use borrow.Author.Rules.{rules}
 use lib.Seq.{length-take-le}
 use Rattle.host.specs.Word.{answer_word}
 use Rattle.host.specs.Calls.{last_index}

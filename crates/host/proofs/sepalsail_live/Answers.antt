@@ -1,6 +1,5 @@
 -- The parts are read out of the bytes, and the call on them is as it promises.
 use mathlib.Core.Path.{sym, ap, ◌∙◌}
-use borrow.Author.Rules.{rules}
 use Rattle.steps.specs.Calls.{live_told}
 use Rattle.host.specs.Word.{told_word}
 use Rattle.host.proofs.Lent.{other_length, this_length, whole, parts_read}

@@ -1,16 +1,11 @@
 -- The proposals that the slice holds are lent to the opening, whose verdict decides; then a fresh session is written.
-use Prim.Native.Nat.{ℕ}
 use mathlib.Core.Path.{◌≡◌, sym, ap, ◌∙◌}
-use mathlib.Core.List.{List}
-use native.Mathlib.Omega.{arith}
-use borrow.Author.Rules.{rules}
 use lib.ListN.{take}
 use Rattle.answers.specs.Answers.{done, answer_of}
 use Rattle.state.specs.Opening.{open_answer}
-use Rattle.state.proofs.Openings.{opens_says}
 use Rattle.image.specs.Image.{proposals_in}
-use Rattle.image.proofs.Filling.{front, front_length, front_fits}
-use Rattle.host.proofs.HostOpen.{open_refused, open_short, open_filled}
+use Rattle.image.proofs.Filling.{front}
+use Rattle.host.proofs.HostOpen.{open_filled}
 use Rattle.host.proofs.sepalsail_open.Goals as goal
 
 pub returns : goal.returns

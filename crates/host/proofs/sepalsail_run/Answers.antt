@@ -1,10 +1,9 @@
 -- The proposals that the slice holds are lent to the run; a schedule with a byte at the last index is refused and nothing is written.
-use Prim.Native.Nat.{ℕ, ◌≤◌}
+use Prim.Native.Nat.{ℕ}
 use mathlib.Core.Path.{◌≡◌, sym, ap, ◌∙◌}
 use mathlib.Core.List.{List}
 use mathlib.Core.Bool.{cond}
 use native.Mathlib.Omega.{arith}
-use borrow.Author.Rules.{rules}
 use lib.Dec.{eqb}
 use lib.ListN.{length, take}
 use Rattle.answers.specs.Answers.{Answer}
@@ -12,7 +11,7 @@ use Rattle.steps.specs.Run.{run_answer, run_out}
 use Rattle.host.specs.Word.{answer_word}
 use Rattle.image.specs.Image.{proposals_in}
 use Rattle.host.specs.Calls.{unless_unopened, proposals_for, last_index, heard}
-use Rattle.image.proofs.Filling.{front, front_length, front_fits}
+use Rattle.image.proofs.Filling.{front}
 use Rattle.host.proofs.Heard.{unheard, heard_some}
 use Rattle.host.proofs.HostRun.{run_is, out_is, bad_any, bad_kept}
 use Rattle.host.proofs.sepalsail_run.Goals as goal

@@ -1,12 +1,8 @@
 -- The parts are read out of the bytes, the call on them is as it promises, and what it leaves is written over the bytes.
-use Prim.Native.Nat.{ℕ}
 use mathlib.Core.Path.{sym, ap, ◌∙◌}
-use mathlib.Core.List.{List}
 use native.Mathlib.Omega.{arith}
-use borrow.Author.Rules.{rules}
-use Rattle.state.specs.declared.kept.Session.{Session}
 use Rattle.answers.proofs.Verdicts.{refuses}
-use Rattle.steps.specs.Calls.{Told, told_of, stop_told, stopped}
+use Rattle.steps.specs.Calls.{told_of, stop_told, stopped}
 use Rattle.steps.specs.declared.reply.Reply.{Reply}
 use Rattle.image.specs.Image.{Below}
 use Rattle.host.specs.Word.{told_word}

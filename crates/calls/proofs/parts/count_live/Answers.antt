@@ -15,12 +15,12 @@ loop-i-preserved c =
     let l = c.loop-i in
     let all = l.invariant.3 in
     elim c.if-p-lt-DECIDED.branch [
-      then-p-lt-DECIDED w ↦
-        let one = left_on f n l.i true (search rules) (lt-ltb _ _ w.if-p-lt-DECIDED.true) in
-        (search rules, search rules, omega (arith, w.count-is), omega (arith, all, one, w.count-is))
+      | then-p-lt-DECIDED w ↦
+          let one = left_on f n l.i true (search rules) (lt-ltb _ _ w.if-p-lt-DECIDED.true) in
+          (search rules, search rules, omega (arith, w.count-is), omega (arith, all, one, w.count-is))
       | else-p-lt-DECIDED w ↦
-        let none = left_on f n l.i false (search rules) (le-ltb _ _ w.if-p-lt-DECIDED.false) in
-        (search rules, search rules, omega (arith, w.count-is), omega (arith, all, none, w.count-is))
+          let none = left_on f n l.i false (search rules) (le-ltb _ _ w.if-p-lt-DECIDED.false) in
+          (search rules, search rules, omega (arith, w.count-is), omega (arith, all, none, w.count-is))
     ]
 
 pub returns : goal.returns

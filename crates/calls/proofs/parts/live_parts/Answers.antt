@@ -1,15 +1,14 @@
 -- Past the refusal the parties are counted, as many as the copy's header says, which is the carried sheet's.
 use Prim.Native.Nat.{ℕ}
 use mathlib.Core.Path.{◌≡◌, sym, ap, ◌∙◌}
-use mathlib.Core.Bool.{Bool, true, cond}
-use borrow.Author.Rules.{rules}
+use mathlib.Core.Bool.{Bool, cond}
 use native.Mathlib.Omega.{arith}
 use Rattle.sheet.specs.Lists.{from}
 use Rattle.sheet.proofs.Folds.{held}
 use Rattle.state.specs.Session.{of_parts, party_of}
 use Rattle.state.specs.WellFormed.{well_formed}
 use Rattle.state.specs.declared.kept.Session.{Session}
-use Rattle.state.proofs.Tested.{passed, stopped}
+use Rattle.state.proofs.Tested.{passed}
 use Rattle.steps.specs.Step.{is_live}
 use Rattle.steps.specs.Calls.{told, count_of, live_number, live_told}
 use Rattle.steps.proofs.Refusals.{parties_byte, parties_few}

@@ -11,7 +11,7 @@ use Rattle.state.specs.declared.kept.Session.{Session}
 use Rattle.answers.proofs.Verdicts.{refuses}
 use Rattle.steps.specs.Step.{stopped_party, stop}
 use Rattle.steps.specs.Calls.{told, told_of}
-use Rattle.steps.proofs.Refusals.{Past, past, refused, answered}
+use Rattle.steps.proofs.Refusals.{past, refused, answered}
 use Rattle.calls.proofs.parts.stop_parts.Goals as goal
 
 module _ (s : Session) (i : ℕ) where

@@ -1,11 +1,8 @@
 -- At each place the act is the one that the definition names, and what it asks follows from the party's rule; a live party is at no other place.
-use Prim.Native.Nat.{ℕ, ◌+◌, ◌≤◌, ◌<◌, zero-le}
+use Prim.Native.Nat.{ℕ, ◌≤◌}
 use mathlib.Core.List.{List}
-use mathlib.Core.Path.{◌≡◌, refl, ap}
-use mathlib.Core.Logic.{◌≢◌}
-use native.Mathlib.Nat.{le_antisymm}
+use mathlib.Core.Path.{refl, ap}
 use native.Mathlib.Omega.{arith}
-use borrow.Author.Rules.{rules}
 use Rattle.state.specs.declared.kept.Party.{Party}
 use Rattle.steps.specs.Step.{place_of, seen, party_after, marks_after, published_after}
 use Rattle.steps.specs.Ready.{Ready, ReadyAt}

@@ -1,5 +1,4 @@
 -- The code's test is the one that `lowers_win` asks.
-use borrow.Author.Rules.{rules}
 use borrow.Author.Tests.{lt-ltb, le-ltb}
 use Rattle.steps.specs.Step.{lowers_win}
 use Rattle.session.proofs.act.lowers_win.Goals as goal

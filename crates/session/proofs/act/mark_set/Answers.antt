@@ -1,20 +1,13 @@
 -- At j the set's units below start + j are stamped; each turn is one unit more, and from bit 64 on the mask has none.
-use Prim.Native.Nat.{ℕ, ◌+◌, ◌-◌, ◌^◌, ◌≤◌, ◌<◌}
-use mathlib.Core.Path.{◌≡◌, ap, subst, ◌∙◌}
-use mathlib.Core.Bool.{Bool, false, ◌&&◌}
+use Prim.Native.Nat.{ℕ, ◌+◌}
+use mathlib.Core.Path.{◌≡◌, ap, ◌∙◌}
 use mathlib.Core.List.{List}
-use mathlib.Core.Logic.{◌≢◌, ⊎_elim}
 use native.Mathlib.Omega.{arith}
 use borrow.Author.Rules.{rules}
-use lib.Dec.{T, ltb, ltb→lt, lt→ltb}
 use lib.ListN.{set}
-use Rattle.sheet.specs.Sets.{bit, in_set}
-use Rattle.sheet.proofs.Bits.{digit, digit_bit, bit_digit, bit_under}
-use Rattle.sheet.proofs.Folds.{and_left, and_right, and_both, fails, same_test}
-use Rattle.sheet.proofs.WriteSets.{at_says, bit_at}
 use Rattle.steps.specs.Step.{stamped}
 use Rattle.steps.proofs.Stamps.{stamped_none, stamped_same, stamped_more}
-use Rattle.session.proofs.act.mark_set.Invariants.{passed, member, low, both, none, kept, unit, no_unit, every}
+use Rattle.session.proofs.act.mark_set.Invariants.{passed, both, none, kept, unit, no_unit, every}
 use Rattle.session.proofs.act.mark_set.Goals as goal
 use Rattle.session.proofs.act.mark_set.Goals.{then-mask-j-eq1, else-mask-j-eq1}
 
@@ -35,15 +28,15 @@ loop-j-preserved c =
     let same = kept a.start a.mask l.j in (
       search rules,
       elim c.if-mask-j-eq1.branch [
-        then-mask-j-eq1 w ↦
-          w.marks-is
-          ∙ ap (λ (xs : List ℕ). set xs (a.start + l.j) a.mark) l.invariant.1
-          ∙ stamped_more old new a.mark a.marks.now (a.start + l.j)
-          (both a.start a.mask (l.j + 1) (a.start + l.j) (unit a.start a.mask l.j w.if-mask-j-eq1.true) (omega arith))
-          (λ u n. same u (λ t. n))
+        | then-mask-j-eq1 w ↦
+            w.marks-is
+            ∙ ap (λ (xs : List ℕ). set xs (a.start + l.j) a.mark) l.invariant.1
+            ∙ stamped_more old new a.mark a.marks.now (a.start + l.j)
+            (both a.start a.mask (l.j + 1) (a.start + l.j) (unit a.start a.mask l.j w.if-mask-j-eq1.true) (omega arith))
+            (λ u n. same u (λ t. n))
         | else-mask-j-eq1 w ↦
-          w.marks-is ∙ l.invariant.1
-          ∙ stamped_same old new a.mark a.marks.now (λ u. same u (no_unit a.start a.mask l.j u w.if-mask-j-eq1.false))
+            w.marks-is ∙ l.invariant.1
+            ∙ stamped_same old new a.mark a.marks.now (λ u. same u (no_unit a.start a.mask l.j u w.if-mask-j-eq1.false))
       ],
     )
 

@@ -1,19 +1,15 @@
 -- At j the set's units below start + j are stamped; each turn is one unit more, and from bit 64 on the mask has none.
 use Prim.Native.Nat.{ℕ, ◌+◌, ◌-◌, ◌^◌, ◌≤◌, ◌<◌}
-use mathlib.Core.Path.{◌≡◌, ap, subst, ◌∙◌}
+use mathlib.Core.Path.{◌≡◌, subst}
 use mathlib.Core.Bool.{Bool, false, ◌&&◌}
-use mathlib.Core.List.{List}
-use mathlib.Core.Logic.{◌≢◌, ⊎_elim}
+use mathlib.Core.Logic.{◌≢◌}
 use native.Mathlib.Omega.{arith}
-use borrow.Author.Rules.{rules}
 use lib.Dec.{T, ltb, ltb→lt, lt→ltb}
-use lib.ListN.{set}
 use Rattle.sheet.specs.Sets.{bit, in_set}
 use Rattle.sheet.proofs.Bits.{digit, digit_bit, bit_digit, bit_under}
 use Rattle.sheet.proofs.Folds.{and_left, and_right, and_both, fails, same_test}
 use Rattle.sheet.proofs.WriteSets.{at_says, bit_at}
 use Rattle.steps.specs.Step.{stamped}
-use Rattle.steps.proofs.Stamps.{stamped_none, stamped_same, stamped_more}
 use Rattle.session.proofs.act.mark_set.Given as goal
 
 module _ (start mask : ℕ) where

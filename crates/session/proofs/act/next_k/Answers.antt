@@ -1,5 +1,4 @@
 -- The code's test is the one that `next_k` asks.
-use borrow.Author.Rules.{rules}
 use borrow.Author.Tests.{lt-ltb, le-ltb}
 use Rattle.steps.specs.Step.{next_k}
 use Rattle.session.proofs.act.next_k.Goals as goal

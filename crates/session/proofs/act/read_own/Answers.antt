@@ -1,11 +1,6 @@
 -- The mark that is read is that of the row's own unit, so the code's test is the one that `after_own` asks.
-use mathlib.Core.Path.{◌≡◌, sym, ap, ◌∙◌}
-use borrow.Author.Rules.{rules}
-use borrow.Author.Tests.{eq-eqb, ne_eqb}
-use lib.Dec.{eqb}
+use mathlib.Core.Path.{◌≡◌, ◌∙◌}
 use Rattle.sheet.specs.Rows.{layout_of, slot}
-use Rattle.sheet.specs.declared.rows.Row.{Row}
-use Rattle.steps.specs.Step.{mark_at}
 use Rattle.steps.proofs.RowOf.{row_read, own_in_memory}
 use Rattle.session.proofs.act.read_own.Goals as goal
 

@@ -1,5 +1,4 @@
 -- The code's test is the one that `won` asks.
-use borrow.Author.Rules.{rules}
 use borrow.Author.Tests.{lt-ltb, le-ltb}
 use Rattle.steps.specs.Step.{won}
 use Rattle.session.proofs.act.win.Goals as goal

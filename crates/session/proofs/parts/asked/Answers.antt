@@ -1,13 +1,9 @@
 -- The first test that fails tells its number, and past both the value is 0.
-use mathlib.Core.Path.{◌≡◌}
-use mathlib.Core.Bool.{Bool, true}
-use borrow.Author.Rules.{rules}
 use Rattle.sheet.specs.Lists.{within}
 use Rattle.state.specs.Session.{of_parts, layout}
 use Rattle.state.specs.WellFormed.{well_formed}
-use Rattle.state.specs.declared.kept.Session.{Session}
 use Rattle.state.proofs.Tested.{passed, stopped}
-use Rattle.steps.proofs.Refusals.{is_formed, byte_party, told_9, told_10, told_0}
+use Rattle.steps.proofs.Refusals.{is_formed, byte_party, told_10, told_0}
 use Rattle.session.proofs.parts.asked.Goals as goal
 
 pub returns-then-not-is_party : goal.returns-then-not-is_party

@@ -1,5 +1,5 @@
 -- Past the two refusals a party that is not live leaves all as it is; what the act of a live one gives is put where the definition puts it.
-use Prim.Native.Nat.{ℕ, ◌-◌, ◌<◌}
+use Prim.Native.Nat.{ℕ, ◌-◌}
 use mathlib.Core.Path.{◌≡◌, sym, ap, ◌∙◌, subst}
 use mathlib.Core.Bool.{Bool, true, false, cond}
 use mathlib.Core.List.{List}
@@ -18,7 +18,7 @@ use Rattle.answers.proofs.Verdicts.{refuses}
 use Rattle.steps.specs.Step.{Place, is_live, place_of, counted, party_acted, marks_after, published_after, acted, step, place_acted}
 use Rattle.steps.specs.Ready.{Ready}
 use Rattle.steps.specs.Calls.{told, told_of}
-use Rattle.steps.proofs.Refusals.{Past, past, refused, answered}
+use Rattle.steps.proofs.Refusals.{past, refused, answered}
 use Rattle.session.proofs.parts.step_parts.Goals as goal
 
 module _ (s : Session) (i : ℕ) where

@@ -1,12 +1,8 @@
 -- The loop's invariant: none of the first j bytes fails, so the first bad byte is the first of those left.
 use Prim.Native.Nat.{◌≤◌, ◌-◌}
-use mathlib.Core.Path.{refl, sym, ◌∙◌}
-use borrow.Author.Rules.{rules}
-use borrow.Author.Tests.{not-true, not-false}
 use lib.ListN.{length}
-use Rattle.sheet.proofs.Folds.{held, failed}
 use Rattle.steps.specs.Run.{byte_ok}
-use Rattle.steps.proofs.Schedules.{Passed, passed_on, passed_here, passed_end}
+use Rattle.steps.proofs.Schedules.{Passed}
 use Rattle.session.proofs.runs.first_bad_byte.Given as goal
 
 abbrev pub invariant-loop-j : goal.invariant-loop-j

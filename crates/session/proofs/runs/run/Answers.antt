@@ -1,18 +1,14 @@
 -- Each refusal is that of the first test that fails, and then the output is untouched; past the tests the schedule is obeyed and the record written.
-use Prim.Native.Nat.{ℕ, ◌-◌, ◌≤◌, ◌<◌, ◌^◌}
+use Prim.Native.Nat.{ℕ, ◌-◌, ◌<◌, ◌^◌}
 use mathlib.Core.Bool.{Bool, false}
 use mathlib.Core.Path.{◌≡◌, refl, sym, ap, ◌∙◌}
 use mathlib.Core.List.{List, ◌++◌}
 use mathlib.Core.Logic.{◌≢◌}
 use native.Mathlib.Omega.{arith}
-use borrow.Author.Rules.{rules}
-use borrow.Author.Tests.{not-true, not-false}
-use lib.Dec.{T}
 use lib.ListN.{length, drop}
 use Rattle.sheet.specs.Rows.{parties_of}
 use Rattle.answers.specs.Answers.{answer, done, answer_of}
 use Rattle.sheet.specs.Lists.{all, first_bad}
-use Rattle.rules.specs.Words.{Rules6}
 use Rattle.answers.specs.declared.Refusal.TheVariants.{Schedule, Output}
 use Rattle.answers.specs.declared.Verdict.TheVariants.{Refused}
 use Rattle.sheet.proofs.Folds.{held, failed}
@@ -23,7 +19,7 @@ use Rattle.state.proofs.Openings.{opens_says}
 use Rattle.record.specs.Record.{record_bytes, record_length}
 use Rattle.record.proofs.Records.{recorded}
 use Rattle.steps.specs.Run.{byte_ok}
-use Rattle.steps.proofs.RunAnswers.{run_unopened, run_unscheduled, run_unfit, run_done, run_refused, out_written}
+use Rattle.steps.proofs.RunAnswers.{run_unscheduled, run_unfit, run_done, run_refused, out_written}
 use Rattle.session.proofs.runs.run.Goals as goal
 
 -- the bytes are not all good, so there is a first bad one
@@ -89,7 +85,7 @@ returns c =
     record {
       result_value = e;
       out_after =
-        recorded n _ a.out.now _ few (omega arith) c.put_record.ensures
-        ∙ ap (λ (ps : List Party). record_bytes n ps ++ drop (record_length n) a.out.now) c.obey-parties.ensures
-        ∙ out_written sheet proposals schedule a.out.now e;
+          recorded n _ a.out.now _ few (omega arith) c.put_record.ensures
+          ∙ ap (λ (ps : List Party). record_bytes n ps ++ drop (record_length n) a.out.now) c.obey-parties.ensures
+          ∙ out_written sheet proposals schedule a.out.now e;
     }

@@ -1,13 +1,8 @@
 -- The loop's invariant: ok is whether the first j bytes are good.
 use Prim.Native.Nat.{◌≤◌, ◌-◌}
-use mathlib.Core.Path.{refl, sym, ◌∙◌}
-use mathlib.Core.Logic.{⊎_elim}
-use borrow.Author.Rules.{rules}
-use borrow.Author.Tests.{not-true, not-false}
 use lib.ListN.{length}
-use Rattle.sheet.proofs.Folds.{held, failed}
 use Rattle.steps.specs.Run.{byte_ok}
-use Rattle.steps.proofs.Schedules.{So, so_on, so_not, so_end}
+use Rattle.steps.proofs.Schedules.{So}
 use Rattle.session.proofs.runs.schedule_ok.Given as goal
 
 abbrev pub invariant-loop-j : goal.invariant-loop-j
