@@ -15,7 +15,7 @@ loop-j-init c =
     (c.fresh_parties-parties.ensures ∙ fresh_taken c.args.n (omega arith))
 
 pub act-requires : goal.act-requires
-act-requires c = going_ready c.loop-j.invariant c.loop-j-test.true c.if-p-lt-DECIDED.true
+act-requires c = going_ready c.loop-j.invariant c.loop-j-test.true (omega arith)
 
 pub loop-j-preserved : goal.loop-j-preserved
 loop-j-preserved c =
@@ -23,9 +23,9 @@ loop-j-preserved c =
     let more = c.loop-j-test.true in
     elim c.if-p-lt-DECIDED.branch [
       | then-p-lt-DECIDED+in-0-to-127 w ↦
-          going_act l.invariant more _ _ _ w.if-p-lt-DECIDED.true (omega arith) w.act.result w.parties-is
+          going_act l.invariant more _ _ _ (omega arith) (omega arith) w.act.result w.parties-is
           w.act.ensures.0 (w.marks-is ∙ w.act.ensures.1.0) (w.published-is ∙ w.act.ensures.1.1)
       | then-p-lt-DECIDED+in_default w ↦
           going_stop l.invariant more _ _ _ (omega arith) w.stop_party.result w.parties-is w.stop_party.ensures w.marks-is w.published-is
-      | else-p-lt-DECIDED w ↦ going_over l.invariant more _ _ _ w.if-p-lt-DECIDED.false w.parties-is w.marks-is w.published-is
+      | else-p-lt-DECIDED w ↦ going_over l.invariant more _ _ _ (omega arith) w.parties-is w.marks-is w.published-is
     ]
