@@ -11,19 +11,29 @@ use Rattle.rules.proofs.writers.clear_of_rounds.Goals as goal
 
 pub returns-then-not-is_clear : goal.returns-then-not-is_clear
 returns-then-not-is_clear c =
+    let kept : c.is_clear.result ≡ clear_of c.args.s.now c.args.round c.args.w c.loop-k.p =
+    let a = c.args in
+    let l = c.loop-k in
+    let row = going_row a.s.now _ l.k l.p l.invariant.0 c.loop-k-test.true c.row_after-t.result c.row_after-t.ensures in
+    c.is_clear.ensures ∙ ap (λ (v : Row). eqb a.round l.p.round || apart a.w.start a.w.mask v.start v.mask) row in
     let a = c.args in
     let l = c.loop-k in
     sym (left_here a.s.now _ l.k l.p l.invariant.0 (clear_of a.s.now a.round a.w) l.invariant.1 c.loop-k-test.true
-    (failed _ (sym (let kept : c.is_clear.result ≡ clear_of c.args.s.now c.args.round c.args.w c.loop-k.p = let a = c.args in let l = c.loop-k in let row = going_row a.s.now _ l.k l.p l.invariant.0 c.loop-k-test.true c.row_after-t.result c.row_after-t.ensures in c.is_clear.ensures ∙ ap (λ (v : Row). eqb a.round l.p.round || apart a.w.start a.w.mask v.start v.mask) row in kept) ∙ c.if-not-is_clear.true)))
+    (failed _ (sym kept ∙ c.if-not-is_clear.true)))
 
 pub loop-k-preserved : goal.loop-k-preserved
 loop-k-preserved c =
+    let kept : c.is_clear.result ≡ clear_of c.args.s.now c.args.round c.args.w c.loop-k.p =
+    let a = c.args in
+    let l = c.loop-k in
+    let row = going_row a.s.now _ l.k l.p l.invariant.0 c.loop-k-test.true c.row_after-t.result c.row_after-t.ensures in
+    c.is_clear.ensures ∙ ap (λ (v : Row). eqb a.round l.p.round || apart a.w.start a.w.mask v.start v.mask) row in
     let a = c.args in
     let l = c.loop-k in
     let more = c.loop-k-test.true in
     let place = going_place a.s.now _ l.k l.p l.invariant.0 more c.row_after-t.result c.row_after-t.ensures in (
       going_on a.s.now _ l.k l.p l.invariant.0 more _ _ place c.next-p.ensures,
-      rw place (left_on a.s.now _ l.k l.p l.invariant.0 (clear_of a.s.now a.round a.w) l.invariant.1 more (held _ (sym (let kept : c.is_clear.result ≡ clear_of c.args.s.now c.args.round c.args.w c.loop-k.p = let a = c.args in let l = c.loop-k in let row = going_row a.s.now _ l.k l.p l.invariant.0 c.loop-k-test.true c.row_after-t.result c.row_after-t.ensures in c.is_clear.ensures ∙ ap (λ (v : Row). eqb a.round l.p.round || apart a.w.start a.w.mask v.start v.mask) row in kept) ∙ c.if-not-is_clear.false))),
+      rw place (left_on a.s.now _ l.k l.p l.invariant.0 (clear_of a.s.now a.round a.w) l.invariant.1 more (held _ (sym kept ∙ c.if-not-is_clear.false))),
     )
 
 pub returns : goal.returns

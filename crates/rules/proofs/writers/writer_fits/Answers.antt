@@ -44,20 +44,32 @@ in_round_lem s p k e w o = λ i. all (λ j. beside p.round p.party (o i) j (row_
 
 pub returns-then-not-alone_in_round : goal.returns-then-not-alone_in_round
 returns-then-not-alone_in_round c =
+    let kept : c.alone_in_round.result ≡ alone_in_round (layout_of c.args.s.now) c.args.p =
     let a = c.args in
-    let no : alone_in_round (layout_of a.s.now) a.p ≡ false = sym (let kept : c.alone_in_round.result ≡ alone_in_round (layout_of c.args.s.now) c.args.p = let a = c.args in let pre = c.requires in c.alone_in_round.ensures ∙ in_round_lem a.s.now a.p a.k pre.k_value _ (own_row a.s.now a.p a.k pre.rules4 pre.slot pre.k_value c.row_after-t.result c.row_after-t.ensures) in kept) ∙ c.if-not-alone_in_round.true in
+    let pre = c.requires in
+    c.alone_in_round.ensures ∙ in_round_lem a.s.now a.p a.k pre.k_value _ (own_row a.s.now a.p a.k pre.rules4 pre.slot pre.k_value c.row_after-t.result c.row_after-t.ensures) in
+    let a = c.args in
+    let no : alone_in_round (layout_of a.s.now) a.p ≡ false = sym kept ∙ c.if-not-alone_in_round.true in
     rw no
 
 pub returns-then-ascending : goal.returns-then-ascending
 returns-then-ascending c =
+    let kept : c.alone_in_round.result ≡ alone_in_round (layout_of c.args.s.now) c.args.p =
     let a = c.args in
-    let yes : alone_in_round (layout_of a.s.now) a.p ≡ true = sym (let kept : c.alone_in_round.result ≡ alone_in_round (layout_of c.args.s.now) c.args.p = let a = c.args in let pre = c.requires in c.alone_in_round.ensures ∙ in_round_lem a.s.now a.p a.k pre.k_value _ (own_row a.s.now a.p a.k pre.rules4 pre.slot pre.k_value c.row_after-t.result c.row_after-t.ensures) in kept) ∙ c.if-not-alone_in_round.false in
+    let pre = c.requires in
+    c.alone_in_round.ensures ∙ in_round_lem a.s.now a.p a.k pre.k_value _ (own_row a.s.now a.p a.k pre.rules4 pre.slot pre.k_value c.row_after-t.result c.row_after-t.ensures) in
+    let a = c.args in
+    let yes : alone_in_round (layout_of a.s.now) a.p ≡ true = sym kept ∙ c.if-not-alone_in_round.false in
     rw (yes, c.if-ascending.true)
 
 pub returns : goal.returns
 returns c =
+    let kept : c.alone_in_round.result ≡ alone_in_round (layout_of c.args.s.now) c.args.p =
     let a = c.args in
     let pre = c.requires in
-    let yes : alone_in_round (layout_of a.s.now) a.p ≡ true = sym (let kept : c.alone_in_round.result ≡ alone_in_round (layout_of c.args.s.now) c.args.p = let a = c.args in let pre = c.requires in c.alone_in_round.ensures ∙ in_round_lem a.s.now a.p a.k pre.k_value _ (own_row a.s.now a.p a.k pre.rules4 pre.slot pre.k_value c.row_after-t.result c.row_after-t.ensures) in kept) ∙ c.if-not-alone_in_round.false in
+    c.alone_in_round.ensures ∙ in_round_lem a.s.now a.p a.k pre.k_value _ (own_row a.s.now a.p a.k pre.rules4 pre.slot pre.k_value c.row_after-t.result c.row_after-t.ensures) in
+    let a = c.args in
+    let pre = c.requires in
+    let yes : alone_in_round (layout_of a.s.now) a.p ≡ true = sym kept ∙ c.if-not-alone_in_round.false in
     let row = own_row a.s.now a.p a.k pre.rules4 pre.slot pre.k_value c.row_after-t.result c.row_after-t.ensures in
     c.clear_of_rounds.ensures ∙ ap (clear_of_rounds (layout_of a.s.now) a.p.round) row ∙ rw (yes, c.if-ascending.false)

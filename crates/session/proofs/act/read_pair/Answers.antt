@@ -6,5 +6,8 @@ use Rattle.session.proofs.act.read_pair.Goals as goal
 
 pub bounds-marks-pair : goal.bounds-marks-pair
 bounds-marks-pair c =
+    let row : c.row_of-w.result ≡ (layout_of c.args.sheet.now).row (slot c.args.p.round c.args.p.k) =
+    let r = c.requires.0 in
+    c.row_of-w.ensures ∙ row_read _ _ r.rules r.row in
     let pre = c.requires in
-    rw (let row : c.row_of-w.result ≡ (layout_of c.args.sheet.now).row (slot c.args.p.round c.args.p.k) = let r = c.requires.0 in c.row_of-w.ensures ∙ row_read _ _ r.rules r.row in row) (pair_in_memory _ _ pre.0.rules pre.0.row pre.1)
+    rw row (pair_in_memory _ _ pre.0.rules pre.0.row pre.1)

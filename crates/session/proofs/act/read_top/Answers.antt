@@ -5,4 +5,8 @@ use Rattle.steps.proofs.RowOf.{row_read, own_in_memory, top_slot}
 use Rattle.session.proofs.act.read_top.Goals as goal
 
 pub bounds-marks-top : goal.bounds-marks-top
-bounds-marks-top c = let r = c.requires.0 in rw (let row : c.row_of-w.result ≡ (layout_of c.args.sheet.now).row (slot c.args.p.round c.args.p.round) = let r = c.requires.0 in c.row_of-w.ensures ∙ row_read _ _ r.rules (top_slot r.row) in row) (own_in_memory _ _ r.rules (top_slot r.row))
+bounds-marks-top c =
+    let row : c.row_of-w.result ≡ (layout_of c.args.sheet.now).row (slot c.args.p.round c.args.p.round) =
+    let r = c.requires.0 in
+    c.row_of-w.ensures ∙ row_read _ _ r.rules (top_slot r.row) in
+    let r = c.requires.0 in rw row (own_in_memory _ _ r.rules (top_slot r.row))
