@@ -2,6 +2,7 @@
 pub mod Folds
 pub mod Bits
 pub mod Numbers
+pub mod Endian
 pub mod Ranges
 pub mod Parts
 pub mod Flat
