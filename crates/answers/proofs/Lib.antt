@@ -1,3 +1,3 @@
 -- Laws that several proofs cite; each file says its argument in its first line.
-pub mod Verdicts
+pub mod Refused
 pub mod Theorems

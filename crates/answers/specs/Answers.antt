@@ -1,9 +1,7 @@
 -- The number and position that document 01 gives each answer.
-use Rattle.std.specs.Prelude.{ℕ}
+use Rattle.std.specs.Prelude.{ℕ, Result, Ok, Err}
 use Rattle.answers.specs.declared.Refusal.{Refusal}
 use Rattle.answers.specs.declared.Refusal.TheVariants.{Short, Version, Header, Length, Row, Writer, Proposals, Schedule, Session, Party, Output, NoSheet}
-use Rattle.answers.specs.declared.Verdict.{Verdict}
-use Rattle.answers.specs.declared.Verdict.TheVariants.{Done, Refused}
 
 -- a number and a position; number 0 is "done"
 pub record Answer : Type 0 where
@@ -45,6 +43,7 @@ position_of Party = 0
 position_of Output = 0
 position_of NoSheet = 0
 
-abbrev pub answer_of : Verdict → Answer
-answer_of Done = done
-answer_of (Refused r) = answer (number_of r) (position_of r)
+-- of a call that answers nothing but whether it was done
+abbrev pub answer_of : Result (Unit {0}) Refusal → Answer
+answer_of (Ok _) = done
+answer_of (Err r) = answer (number_of r) (position_of r)

@@ -1,11 +1,11 @@
-// What the calls answer. `specs/Answers.antt` gives document 01's number and position of each case.
+// Why a call is refused. `specs/Answers.antt` gives document 01's number and position of each case, and of a call's result.
 #![tactic(auto)]
 
 ghost use Rattle.std.specs.Prelude.{◌≡◌};
 ghost use Rattle.answers.specs.Answers.{number_of, position_of};
 
 // Why a call was refused. A row is counted from 1, the index of a schedule byte from 0.
-#[derive(Clone, Copy)]
+#[derive(Clone, Copy, Debug, PartialEq, Eq)]
 pub enum Refusal {
     Short,
     Version,
@@ -19,12 +19,6 @@ pub enum Refusal {
     Party,
     Output,
     NoSheet,
-}
-
-#[derive(Clone, Copy)]
-pub enum Verdict {
-    Done,
-    Refused(Refusal),
 }
 
 impl Refusal {

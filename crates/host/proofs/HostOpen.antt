@@ -17,7 +17,7 @@ use Rattle.state.specs.Session.{fresh_party, no_party, filled, fresh_session, of
 use Rattle.state.specs.Opening.{open_answer}
 use Rattle.state.specs.declared.kept.Party.{Party}
 use Rattle.state.specs.declared.kept.Session.{Session}
-use Rattle.answers.proofs.Verdicts.{refused_number}
+use Rattle.answers.proofs.Refused.{refused_number}
 use Rattle.state.proofs.Filled.{fresh_taken, sheet_most}
 use Rattle.state.proofs.Openings.{opens_says}
 use Rattle.host.specs.Word.{answer_word}

@@ -7,7 +7,7 @@ use Rattle.answers.specs.Answers.{Answer, answer, done, number_of, position_of, 
 use Rattle.answers.specs.declared.Refusal.{Refusal}
 use Rattle.answers.specs.declared.Verdict.{Verdict}
 use Rattle.answers.specs.declared.Verdict.TheVariants.{Refused}
-use Rattle.answers.proofs.Verdicts.{refused_number}
+use Rattle.answers.proofs.Refused.{refused_number}
 use Rattle.lister.specs.Text.{listing, refused_text}
 use Rattle.lister.specs.Listed.{answered, recorded, listed}
 

@@ -8,44 +8,41 @@ ghost use Rattle.std.specs.Prelude.{◌≡◌};
 ghost use Rattle.answers.specs.Answers.{answer_of, done};
 ghost use Rattle.rules.specs.Check.{unless_unfit, check_answer};
 
-use answers::{Refusal, Verdict};
+use answers::Refusal;
 pub use shape::numbers_ok;
 use sheet::sizes::{HEADER_LENGTH, VERSION, VERSION_AT};
 
 // Whether a sheet keeps all rules but the writer rule: the first that fails, in document 01's order.
-fn fits(sheet: &[u8]) -> Verdict
+fn fits(sheet: &[u8]) -> Result<(), Refusal>
     ensures { answer_of result ≡ unless_unfit sheet.now done }
 {
     if sheet.len() < HEADER_LENGTH {
-        return Verdict::Refused(Refusal::Short);
+        return Err(Refusal::Short);
     }
     if sheet[VERSION_AT] != VERSION {
-        return Verdict::Refused(Refusal::Version);
+        return Err(Refusal::Version);
     }
     if !shape::header_ok(sheet) {
-        return Verdict::Refused(Refusal::Header);
+        return Err(Refusal::Header);
     }
     if !shape::length_ok(sheet) {
-        return Verdict::Refused(Refusal::Length);
+        return Err(Refusal::Length);
     }
     let misfit = shape::first_bad_row(sheet);
     if misfit != 0 {
-        return Verdict::Refused(Refusal::Row(misfit));
+        return Err(Refusal::Row(misfit));
     }
-    Verdict::Done
+    Ok(())
 }
 
 // Whether a sheet is accepted: the first rule that fails, in document 01's order.
-pub fn check(sheet: &[u8]) -> Verdict
+pub fn check(sheet: &[u8]) -> Result<(), Refusal>
     ensures { answer_of result ≡ check_answer sheet.now }
 {
-    let verdict = fits(sheet);
-    if let Verdict::Refused(_) = verdict {
-        return verdict;
-    }
+    fits(sheet)?;
     let clash = writers::first_bad_writer(sheet);
     if clash != 0 {
-        return Verdict::Refused(Refusal::Writer(clash));
+        return Err(Refusal::Writer(clash));
     }
-    Verdict::Done
+    Ok(())
 }

@@ -5,7 +5,7 @@ use Rattle.answers.specs.Answers.{answer_of}
 use Rattle.answers.specs.declared.Verdict.{Verdict}
 use Rattle.answers.specs.declared.Verdict.TheVariants as Case
 use Rattle.answers.proofs.Theorems.{one_answer}
-use Rattle.answers.proofs.Verdicts.{refuses}
+use Rattle.answers.proofs.Refused.{refuses}
 use Rattle.steps.specs.Calls.{Told, told_of}
 use Rattle.steps.specs.declared.reply.Reply.{Reply}
 use Rattle.steps.specs.declared.reply.Reply.TheVariants.{Gave, Refused}

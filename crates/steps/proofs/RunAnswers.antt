@@ -14,7 +14,7 @@ use Rattle.answers.specs.declared.Refusal.{Refusal}
 use Rattle.answers.specs.declared.Verdict.{Verdict}
 use Rattle.answers.specs.declared.Verdict.TheVariants.{Refused}
 use Rattle.state.specs.Opening.{open_answer}
-use Rattle.answers.proofs.Verdicts.{refused_number}
+use Rattle.answers.proofs.Refused.{refused_number}
 use Rattle.record.specs.Record.{record_length, record_bytes}
 use Rattle.steps.specs.Run.{byte_ok, run_answer, ran, run_out}
 

@@ -1,7 +1,7 @@
 -- The parts are read out of the bytes, the call on them is as it promises, and what it leaves is written over the bytes.
 use mathlib.Core.Path.{sym, ap, ◌∙◌}
 use native.Mathlib.Omega.{arith}
-use Rattle.answers.proofs.Verdicts.{refuses}
+use Rattle.answers.proofs.Refused.{refuses}
 use Rattle.steps.specs.Calls.{told_of, stop_told, stopped}
 use Rattle.steps.specs.declared.reply.Reply.{Reply}
 use Rattle.image.specs.Image.{Below}

@@ -8,7 +8,7 @@ use lib.Seq.{get_or-set_same}
 use Rattle.state.specs.Session.{of_parts, no_party, party_of}
 use Rattle.state.specs.declared.kept.Party.{Party}
 use Rattle.state.specs.declared.kept.Session.{Session}
-use Rattle.answers.proofs.Verdicts.{refuses}
+use Rattle.answers.proofs.Refused.{refuses}
 use Rattle.steps.specs.Step.{stopped_party, stop}
 use Rattle.steps.specs.Calls.{told, told_of}
 use Rattle.steps.proofs.Refusals.{past, refused, answered}

@@ -14,7 +14,7 @@ use Rattle.state.specs.declared.kept.Party.{Party}
 use Rattle.state.specs.declared.kept.Session.{Session}
 use Rattle.state.proofs.Carried.{front_fits, front_carried}
 use Rattle.state.proofs.FormWords.{well_formed_says}
-use Rattle.answers.proofs.Verdicts.{refuses}
+use Rattle.answers.proofs.Refused.{refuses}
 use Rattle.steps.specs.Step.{Place, is_live, place_of, counted, party_acted, marks_after, published_after, acted, step, place_acted}
 use Rattle.steps.specs.Ready.{Ready}
 use Rattle.steps.specs.Calls.{told, told_of}

@@ -1,16 +1,15 @@
--- A verdict that refuses has a number that is not 0.
+-- A call that is refused has a number that is not 0.
 use Prim.Native.Nat.{◌≤◌}
 use mathlib.Core.Path.{◌≡◌, sym, ap, ◌∙◌}
 use mathlib.Core.Bool.{false}
 use native.Mathlib.Omega.{arith}
 use borrow.Author.Tests.{ne_eqb}
 use lib.Dec.{eqb}
+use Rattle.std.specs.Prelude.{Result, Err}
 use Rattle.answers.specs.Answers.{Answer, number_of, answer_of}
 use Rattle.answers.specs.declared.Refusal.{Refusal}
 use Rattle.answers.specs.declared.Refusal.TheVariants.{Short, Version, Header, Length, Row, Writer}
 use Rattle.answers.specs.declared.Refusal.TheVariants.{Proposals, Schedule, Session, Party, Output, NoSheet}
-use Rattle.answers.specs.declared.Verdict.{Verdict}
-use Rattle.answers.specs.declared.Verdict.TheVariants.{Refused}
 
 pub refuses : (r : Refusal) → 1 ≤ number_of r
 refuses Short = omega arith
@@ -26,7 +25,7 @@ refuses Party = omega arith
 refuses Output = omega arith
 refuses NoSheet = omega arith
 
-pub refused_number : (a : Answer) (v : Verdict) (r : Refusal) → answer_of v ≡ a → v ≡ Refused r → eqb a.number 0 ≡ false
+pub refused_number : (a : Answer) (v : Result (Unit {0}) Refusal) (r : Refusal) → answer_of v ≡ a → v ≡ Err r → eqb a.number 0 ≡ false
 refused_number a v r e d =
     let same = ap (λ (b : Answer). b.number) (sym e ∙ ap answer_of d) in
     let some = refuses r in
