@@ -25,7 +25,7 @@ refuses Party = omega arith
 refuses Output = omega arith
 refuses NoSheet = omega arith
 
-pub refused_number : (a : Answer) (v : Result (Unit {0}) Refusal) (r : Refusal) → answer_of v ≡ a → v ≡ Err r → eqb a.number 0 ≡ false
+pub refused_number : {A : Type 0} (a : Answer) (v : Result A Refusal) (r : Refusal) → answer_of v ≡ a → v ≡ Err r → eqb a.number 0 ≡ false
 refused_number a v r e d =
     let same = ap (λ (b : Answer). b.number) (sym e ∙ ap answer_of d) in
     let some = refuses r in

@@ -43,7 +43,7 @@ position_of Party = 0
 position_of Output = 0
 position_of NoSheet = 0
 
--- of a call that answers nothing but whether it was done
-abbrev pub answer_of : Result (Unit {0}) Refusal → Answer
+-- of a call, whatever it gives where it is done
+abbrev pub answer_of : {A : Type 0} → Result A Refusal → Answer
 answer_of (Ok _) = done
 answer_of (Err r) = answer (number_of r) (position_of r)

@@ -1,22 +1,15 @@
 // Whether a session is opened, and a session filled whole at opening.
-ghost use Rattle.std.specs.Prelude.{◌≡◌, ◌-◌, ◌≤◌, min, length, take, replicate};
+ghost use Rattle.std.specs.Prelude.{[], ◌≡◌, ◌-◌, ◌≤◌, min, length, take, replicate};
 ghost use mathlib.Core.List.{◌++◌, map};
 ghost use Rattle.sheet.specs.Sizes.{most_parties, most_sheet};
 ghost use Rattle.sheet.specs.Lists.{from};
 ghost use Rattle.answers.specs.Answers.{answer_of};
 ghost use Rattle.state.specs.Session.{fresh_party, no_party, filled, fresh_session};
-ghost use Rattle.state.specs.Opening.{open_answer, opened};
+ghost use Rattle.state.specs.Opening.{open_answer, opened, session_given};
 
 use crate::kept::{CELLS, Party, Session};
-use answers::{Refusal, Verdict};
+use answers::Refusal;
 use sheet::sizes::{MOST_PARTIES, MOST_SHEET, MOST_UNITS, PARTIES_AT};
-
-// A session that was opened, or why it was not.
-#[derive(Drop)]
-pub struct Opened {
-    pub session: Session,
-    pub verdict: Verdict,
-}
 
 fn sheet_copy(sheet: &[u8]) -> [u8; MOST_SHEET]
     requires { length sheet.now ≤ most_sheet }
@@ -87,43 +80,38 @@ fn fresh_session(sheet: &[u8], proposals: &[u32], n: u8) -> Session
     }
 }
 
-// The session that a refused open gives: zeros.
-fn blank_session() -> Session
-    ensures { result ≡ fresh_session mathlib.Core.List.[] mathlib.Core.List.[] 0 }
-{
-    let none = Party::fresh(0);
-    Session {
-        sheet: [0; MOST_SHEET],
-        proposals: [0; MOST_PARTIES],
-        marks: [0; MOST_UNITS],
-        published: [0; CELLS],
-        parties: [none; MOST_PARTIES],
+impl Session {
+    // A session of zeros, to read another into.
+    pub fn blank() -> Self
+        ensures { result ≡ fresh_session [] [] 0 }
+    {
+        let none = Party::fresh(0);
+        Session {
+            sheet: [0; MOST_SHEET],
+            proposals: [0; MOST_PARTIES],
+            marks: [0; MOST_UNITS],
+            published: [0; CELLS],
+            parties: [none; MOST_PARTIES],
+        }
     }
 }
 
 // Whether a session is opened: on an accepted sheet, with a proposal for each party.
-pub fn opens(sheet: &[u8], proposals: &[u32]) -> Verdict
+pub fn opens(sheet: &[u8], proposals: &[u32]) -> Result<(), Refusal>
     ensures { answer_of result ≡ open_answer sheet.now proposals.now }
 {
-    let verdict = rules::check(sheet);
-    if let Verdict::Refused(_) = verdict {
-        return verdict;
+    rules::check(sheet)?;
+    if proposals.len() != usize::from(sheet[PARTIES_AT]) {
+        return Err(Refusal::Proposals);
     }
-    if proposals.len() != sheet[PARTIES_AT] as usize {
-        return Verdict::Refused(Refusal::Proposals);
-    }
-    Verdict::Done
+    Ok(())
 }
 
 // Opens a session on an accepted sheet with a proposal for each party.
-pub fn open_value(sheet: &[u8], proposals: &[u32]) -> Opened
-    ensures { (result.session ≡ opened sheet.now proposals.now) × (answer_of result.verdict ≡ open_answer sheet.now proposals.now) }
+pub fn open_value(sheet: &[u8], proposals: &[u32]) -> Result<Session, Refusal>
+    ensures session { session_given result ≡ opened sheet.now proposals.now }
+    ensures answer { answer_of result ≡ open_answer sheet.now proposals.now }
 {
-    let verdict = opens(sheet, proposals);
-    if let Verdict::Refused(_) = verdict {
-        let session = blank_session();
-        return Opened { session, verdict };
-    }
-    let session = fresh_session(sheet, proposals, sheet[PARTIES_AT]);
-    Opened { session, verdict }
+    opens(sheet, proposals)?;
+    Ok(fresh_session(sheet, proposals, sheet[PARTIES_AT]))
 }

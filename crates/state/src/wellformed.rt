@@ -1,14 +1,12 @@
 // Whether a session is well formed: a function for each group of clauses.
-ghost use Rattle.std.specs.Prelude.{◌≡◌, cond, ◌+◌, ◌-◌, ◌/◌, ◌%◌, ◌≤◌, min, length, get_or, take, leb, ltb, eqb};
+ghost use Rattle.std.specs.Prelude.{◌≡◌, ◌&&◌, cond, ◌+◌, ◌-◌, ◌/◌, ◌%◌, ◌≤◌, min, length, get_or, take, leb, ltb, eqb};
 ghost use Rattle.sheet.specs.Sizes.{length_at, most_parties, most_sheet};
 ghost use Rattle.sheet.specs.Lists.{from, all, within};
 ghost use Rattle.sheet.specs.Bytes.{num};
 ghost use Rattle.rules.specs.Check.{check_answer};
-ghost use Rattle.state.specs.Session.{of_parts};
 ghost use Rattle.state.specs.WellFormed.{carried_ok, marks_ok, is_lower, published_ok, proposals_ok, same, round_ok, scan_ok, lower_ok, top_ok, idle_ok, unstarted_ok, decision_ok, status_ok, ranges_ok, party_ok, unused_ok, parties_ok, well_formed};
 
-use crate::kept::{CELLS, MOST_STEPS, Mark, Party, Place, Status, cell_of};
-use answers::Verdict;
+use crate::kept::{CELLS, MOST_STEPS, Mark, Party, Place, Session, Status, cell_of};
 use sheet::bytes;
 use sheet::sizes::{
     LENGTH_AT, LENGTH_LOW_AT, MOST_PARTIES, MOST_SHEET, MOST_UNITS, PARTIES_AT, UNITS_AT,
@@ -33,10 +31,7 @@ fn is_accepted(s: &[u8], len: usize) -> bool
     requires { len ≤ length s.now }
     ensures { result ≡ eqb (check_answer (take len s.now)).number 0 }
 {
-    match rules::check(&s[..len]) {
-        Verdict::Done => true,
-        Verdict::Refused(_) => false,
-    }
+    rules::check(&s[..len]).is_ok()
 }
 
 fn zeros_from(s: &[u8], start: usize) -> bool
@@ -297,31 +292,26 @@ fn parties_ok(n: u8, published: &[u8; CELLS], parties: [Party; MOST_PARTIES]) ->
     true
 }
 
-// Every clause, of the parts of a session.
-pub fn parts_well_formed<'a>(
-    sheet: &'a [u8; MOST_SHEET],
-    proposals: &'a [u32; MOST_PARTIES],
-    marks: &'a [u8; MOST_UNITS],
-    published: &'a [u8; CELLS],
-    parties: [Party; MOST_PARTIES],
-) -> bool
-    ensures { result ≡ well_formed (of_parts sheet.now proposals.now marks.now published.now parties) }
-{
-    if !sheet_ok(sheet) {
-        return false;
+impl Session {
+    // The clauses of marks, published candidates, proposals and parties, on a sheet of n parties and so many units.
+    fn contents_ok(&self, n: u8, units: u16) -> bool
+        requires { n ≤ most_parties }
+        ensures { result ≡ (marks_ok units self.now.marks && published_ok n self.now.published && proposals_ok n self.now.proposals && parties_ok n self.now.published self.now.parties) }
+    {
+        marks_ok(&self.marks, units as usize)
+            && published_ok(&self.published, n as usize)
+            && proposals_ok(&self.proposals, n as usize)
+            && parties_ok(n, &self.published, self.parties)
     }
-    let n = sheet[PARTIES_AT];
-    if !marks_ok(
-        marks,
-        bytes::two(sheet[UNITS_AT], sheet[UNITS_LOW_AT]) as usize,
-    ) {
-        return false;
+
+    // Whether every clause holds.
+    pub fn is_well_formed(&self) -> bool
+        ensures { result ≡ well_formed self.now }
+    {
+        if !sheet_ok(&self.sheet) {
+            return false;
+        }
+        let units = u16::from_be_bytes([self.sheet[UNITS_AT], self.sheet[UNITS_LOW_AT]]);
+        self.contents_ok(self.sheet[PARTIES_AT], units)
     }
-    if !published_ok(published, n as usize) {
-        return false;
-    }
-    if !proposals_ok(proposals, n as usize) {
-        return false;
-    }
-    parties_ok(n, published, parties)
 }

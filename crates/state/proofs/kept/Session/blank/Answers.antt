@@ -1,6 +1,6 @@
 -- Each part is filled with zeros, and a party with zeros is a fresh party 0.
 use lib.ListN.{replicate}
-use Rattle.state.proofs.opening.blank_session.Goals as goal
+use Rattle.state.proofs.kept.Session.blank.Goals as goal
 
 pub returns : goal.returns
 returns c = λ i.
