@@ -1,6 +1,6 @@
-// Sessions: one act, the step on their parts, and the run.
+// Sessions: one act, the step, and the run.
 #![tactic(auto)]
 
 mod act;
-pub mod parts;
 pub mod runs;
+pub mod stepping;

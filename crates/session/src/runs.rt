@@ -7,8 +7,8 @@ ghost use Rattle.rules.specs.Words.{Rules6};
 ghost use Rattle.answers.specs.Answers.{answer_of};
 ghost use Rattle.steps.specs.Run.{byte_ok, ran, run_answer, run_out};
 
-use crate::{act, parts};
-use answers::{Refusal, Verdict};
+use crate::{act, stepping};
+use answers::Refusal;
 use sheet::sizes::{MOST_PARTIES, MOST_UNITS, PARTIES_AT};
 use state::{CELLS, Party, Status, opening};
 
@@ -78,7 +78,7 @@ fn obey(sheet: &[u8], proposals: &[u32], schedule: &[u8], n: u8) -> [Party; MOST
                     i,
                     n,
                 ),
-                _ => parties[at] = parts::stop_party(p),
+                _ => parties[at] = stepping::stop_party(p),
             }
         }
         j += 1;
@@ -87,22 +87,19 @@ fn obey(sheet: &[u8], proposals: &[u32], schedule: &[u8], n: u8) -> [Party; MOST
 }
 
 // Opens a session, obeys each byte in turn and writes the record; bytes past it keep their content, and a refusal changes nothing.
-pub fn run(sheet: &[u8], proposals: &[u32], schedule: &[u8], out: &mut [u8]) -> Verdict
+pub fn run(sheet: &[u8], proposals: &[u32], schedule: &[u8], out: &mut [u8]) -> Result<(), Refusal>
     ensures result_value { answer_of result ≡ run_answer sheet.now proposals.now schedule.now (length out.old) }
     ensures out_after { out.new ≡ run_out sheet.now proposals.now schedule.now out.old }
 {
-    let verdict = opening::opens(sheet, proposals);
-    if let Verdict::Refused(_) = verdict {
-        return verdict;
-    }
+    opening::opens(sheet, proposals)?;
     let n = sheet[PARTIES_AT];
     if !schedule_ok(schedule, n) {
-        return Verdict::Refused(Refusal::Schedule(first_bad_byte(schedule, n) - 1));
+        return Err(Refusal::Schedule(first_bad_byte(schedule, n) - 1));
     }
     if out.len() < record::HEAD_LENGTH + record::PARTY_LENGTH * (n as usize) {
-        return Verdict::Refused(Refusal::Output);
+        return Err(Refusal::Output);
     }
     let parties = obey(sheet, proposals, schedule, n);
     record::put_record(out, n, parties);
-    Verdict::Done
+    Ok(())
 }

@@ -1,4 +1,5 @@
 -- A call for a party is refused where the session is not well formed, then where the party is none of the session's; past both tests it is answered.
+use Rattle.std.specs.Prelude.{Err}
 use Prim.Native.Nat.{ℕ, ◌≤◌}
 use mathlib.Core.Path.{◌≡◌, refl, sym, ap, ◌∙◌}
 use mathlib.Core.Bool.{Bool, true, false, ◌&&◌, cond}
@@ -16,7 +17,10 @@ use Rattle.state.proofs.Tested.{passed}
 use Rattle.state.proofs.Joins.{within_words}
 use Rattle.state.proofs.Carried.{carried_parties}
 use Rattle.state.proofs.FormWords.{well_formed_says}
-use Rattle.steps.specs.Calls.{Told, told, unless_refused, unless_kept}
+use Rattle.answers.specs.declared.Refusal.{Refusal}
+use Rattle.answers.proofs.Refused.{refuses}
+use Rattle.steps.specs.Calls.{Told, told, told_by, told_of, unless_refused, unless_kept}
+use Rattle.steps.specs.Ready.{Past}
 
 module _ (s : Session) (formed : T (well_formed s)) where
   accepted : Rules6 (carried s)
@@ -52,14 +56,6 @@ module _ (w b : Bool) (value : ℕ) where
   pub told_0 : w ≡ true → b ≡ true → told 0 value ≡ Answer
   told_0 e f = rw (e, f)
 
--- past both tests
-pub record Past (s : Session) (i : ℕ) : Type 0 where
-  pub formed : T (well_formed s)
-  pub parties : parties_of s.sheet ≡ (layout s).parties
-  pub least : 1 ≤ i
-  pub most : i ≤ (layout s).parties
-  pub few : i ≤ 16
-
 -- a call makes `after` of the session, and answers `value`; what it was told first is what `asked` tells
 module _ (s : Session) (i : ℕ) (after : Session) (value : ℕ) where
   abbrev Answers : Session → Told → Type 0
@@ -71,26 +67,17 @@ module _ (s : Session) (i : ℕ) (after : Session) (value : ℕ) where
       let party = holds (within 1 (layout s).parties i) ((within_words 1 (layout s).parties i).says.1 (p.least, p.most)) in
       (rw (formed, party), rw (formed, party))
 
-  pub refused : (t : Told) → t ≡ unless_refused s i 0 → (t.number ≡ 0 → ⊥) → Answers s t
-  refused t e n = by (well_formed s) (within 1 (layout s).parties i) e
+  pub refused : (r : Refusal) → told_by (λ (a : Unit {0}). 0) (Err r) ≡ unless_refused s i 0 → Answers s (told_of (Err r))
+  refused r e = by (well_formed s) (within 1 (layout s).parties i) e
     where
-      by : (w b : Bool) → t ≡ Answer w b 0 → (s ≡ cond (w && b) after s) × (t ≡ Answer w b value)
-      by true true f = absurd (n (ap (λ (a : Told). a.number) f))
+      by : (w b : Bool) → told_of (Err r) ≡ Answer w b 0 → (s ≡ cond (w && b) after s) × (told_of (Err r) ≡ Answer w b value)
+      by true true f = let n = ap (λ (a : Told). a.number) f in absurd (omega (arith, refuses r))
       by true false f = (refl, f)
       by false b f = (refl, f)
 
-pub past : (s : Session) (i : ℕ) (t : Told) → t ≡ unless_refused s i 0 → t.number ≡ 0 → Past s i
-past s i t e n = by (well_formed s) (within 1 (layout s).parties i) e (λ h. h) (within_words 1 (layout s).parties i).says.0
-  where
-    by : (w b : Bool) → t ≡ Answer w b 0 → (T w → T (well_formed s)) → (T b → (1 ≤ i) × (i ≤ (layout s).parties)) → Past s i
-    by true true f formed party =
-        let (least, most) = party tt in
-        record {
-          formed = formed tt;
-          parties = parties_byte s (formed tt);
-          least = least;
-          most = most;
-          few = le_trans most (parties_few s (formed tt));
-        }
-    by true false f formed party = absurd (omega (arith, n, ap (λ (a : Told). a.number) f))
-    by false b f formed party = absurd (omega (arith, n, ap (λ (a : Told). a.number) f))
+-- past both tests
+pub past : (s : Session) (i : ℕ) → well_formed s ≡ true → within 1 (layout s).parties i ≡ true → Past s i
+past s i formed party =
+    let f = held (well_formed s) formed in
+    let (least, most) = (within_words 1 (layout s).parties i).says.0 (held (within 1 (layout s).parties i) party) in
+    record { formed = f; parties = parties_byte s f; least = least; most = most; few = le_trans most (parties_few s f) }

@@ -1,4 +1,5 @@
 -- A run's answer is of the first test that fails: where the tests before pass, it is what the next one decides, and a refusal leaves the output.
+use Rattle.std.specs.Prelude.{Result, Err}
 use Prim.Native.Nat.{ℕ, ◌-◌, ◌≤◌, ◌<◌}
 use mathlib.Core.Path.{◌≡◌, refl, sym, ap, ◌∙◌}
 use mathlib.Core.List.{List, ◌++◌}
@@ -11,8 +12,6 @@ use Rattle.sheet.specs.Rows.{parties_of}
 use Rattle.sheet.specs.Lists.{first_bad}
 use Rattle.answers.specs.Answers.{Answer, answer, done, answer_of}
 use Rattle.answers.specs.declared.Refusal.{Refusal}
-use Rattle.answers.specs.declared.Verdict.{Verdict}
-use Rattle.answers.specs.declared.Verdict.TheVariants.{Refused}
 use Rattle.state.specs.Opening.{open_answer}
 use Rattle.answers.proofs.Refused.{refused_number}
 use Rattle.record.specs.Record.{record_length, record_bytes}
@@ -38,7 +37,7 @@ module _ (sheet proposals schedule out : List ℕ) where
 
   -- ---- the answer
 
-  pub run_unopened : (v : Verdict) (r : Refusal) → v ≡ Refused r → answer_of v ≡ open_answer sheet proposals
+  pub run_unopened : (v : Result (Unit {0}) Refusal) (r : Refusal) → v ≡ Err r → answer_of v ≡ open_answer sheet proposals
       → answer_of v ≡ run_answer sheet proposals schedule (length out)
   unfolding run_at
   run_unopened v r o e = sym (ap run_at (sym e) ∙ rw (refused_number (answer_of v) v r refl o))
@@ -58,8 +57,8 @@ module _ (sheet proposals schedule out : List ℕ) where
 
   -- ---- the output
 
-  -- a verdict that refuses, and the output as it was
-  pub run_refused : (v : Verdict) (r : Refusal) → v ≡ Refused r → answer_of v ≡ run_answer sheet proposals schedule (length out)
+  -- a result that refuses, and the output as it was
+  pub run_refused : (v : Result (Unit {0}) Refusal) (r : Refusal) → v ≡ Err r → answer_of v ≡ run_answer sheet proposals schedule (length out)
       → (answer_of v ≡ run_answer sheet proposals schedule (length out)) × (out ≡ run_out sheet proposals schedule out)
   unfolding out_at
   run_refused v r o e = (e, sym (ap out_at (sym e) ∙ rw (refused_number (answer_of v) v r refl o)))

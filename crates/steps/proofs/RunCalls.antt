@@ -22,7 +22,8 @@ use Rattle.steps.specs.Calls.{Told, step_told, stepped, stop_told, stopped}
 use Rattle.steps.specs.Run.{byte_ok, move_of, moves_in, entry, obeyed, ran}
 use Rattle.steps.specs.Moves.{step_of, stop_of, whose}
 use Rattle.steps.specs.Trace.{call, call_told, called, called_told, values_told, is_act, acts, acts_told}
-use Rattle.steps.proofs.Refusals.{parties_byte, parties_few, Past, answered}
+use Rattle.steps.proofs.Refusals.{parties_byte, parties_few, answered}
+use Rattle.steps.specs.Ready.{Past}
 use Rattle.steps.proofs.Reached.{Reached, here, reached_parties, reached_well_formed}
 use Rattle.steps.proofs.Moves.{entry_moved}
 use Rattle.steps.proofs.Obeying.{Good, byte_good, entry_reached}

@@ -1,13 +1,12 @@
 -- The calls on a session: their refusals in their order, what they answer, and the session afterwards.
-use Rattle.std.specs.Prelude.{ℕ, suc, List, [], ◌∷◌, Bool, ◌&&◌, cond}
+use Rattle.std.specs.Prelude.{ℕ, suc, List, [], ◌∷◌, Bool, ◌&&◌, cond, Result, Ok, Err}
 use Rattle.sheet.specs.Lists.{from, within}
 use Rattle.answers.specs.Answers.{number_of, position_of}
+use Rattle.answers.specs.declared.Refusal.{Refusal}
 use Rattle.state.specs.Session.{layout, party_of}
 use Rattle.state.specs.WellFormed.{well_formed}
 use Rattle.state.specs.declared.kept.Session.{Session}
 use Rattle.steps.specs.Step.{is_live, step, place_acted, stop}
-use Rattle.steps.specs.declared.reply.Reply.{Reply}
-use Rattle.steps.specs.declared.reply.Reply.TheVariants.{Gave, Refused}
 
 -- ---- what a call tells: a number and a position, and a value (place, status, live number), which is 0 in a refused answer
 pub record Told : Type 0 where
@@ -18,10 +17,14 @@ pub record Told : Type 0 where
 abbrev pub told : ℕ → ℕ → Told
 told n v = record { number = n; value = v; position = 0 }
 
--- document 01's numbers for each case of a reply
-abbrev pub told_of : Reply → Told
-told_of (Gave v) = told 0 v
-told_of (Refused r) = record { number = number_of r; value = 0; position = position_of r }
+-- document 01's numbers for each case of a call's result, in whose value a number is read
+abbrev pub told_by : {A : Type 0} → (A → ℕ) → Result A Refusal → Told
+told_by value (Ok a) = told 0 (value a)
+told_by value (Err r) = record { number = number_of r; value = 0; position = position_of r }
+
+-- of a call that gives a place, a status or a live number
+abbrev pub told_of : Result ℕ Refusal → Told
+told_of = told_by (λ v. v)
 
 -- ---- step and stop: 9, 10
 

@@ -1,4 +1,2 @@
-// What the calls on a session answer. What a step, a call and a run are stands in specs/, what they reach and the argument in proofs/.
+// What a step, a call and a run are stands in specs/, what they reach and the argument in proofs/. There is no code.
 #![tactic(auto)]
-
-pub mod reply;

@@ -1,4 +1,5 @@
 -- Each refusal is that of the first test that fails, and then the output is untouched; past the tests the schedule is obeyed and the record written.
+use Rattle.std.specs.Prelude.{Err}
 use Prim.Native.Nat.{ℕ, ◌-◌, ◌<◌, ◌^◌}
 use mathlib.Core.Bool.{Bool, false}
 use mathlib.Core.Path.{◌≡◌, refl, sym, ap, ◌∙◌}
@@ -7,10 +8,9 @@ use mathlib.Core.Logic.{◌≢◌}
 use native.Mathlib.Omega.{arith}
 use lib.ListN.{length, drop}
 use Rattle.sheet.specs.Rows.{parties_of}
-use Rattle.answers.specs.Answers.{answer, done, answer_of}
+use Rattle.answers.specs.Answers.{answer, done}
 use Rattle.sheet.specs.Lists.{all, first_bad}
 use Rattle.answers.specs.declared.Refusal.TheVariants.{Schedule, Output}
-use Rattle.answers.specs.declared.Verdict.TheVariants.{Refused}
 use Rattle.sheet.proofs.Folds.{held, failed}
 use Rattle.sheet.proofs.FirstBad.{first_none, none_first}
 use Rattle.state.specs.Opening.{open_answer}
@@ -39,13 +39,13 @@ returns-then-not-schedule_ok c =
     let sheet = a.sheet.now in
     let proposals = a.proposals.now in
     let schedule = a.schedule.now in
-    let opening : done ≡ open_answer sheet proposals = sym (ap answer_of c.in_default.is) ∙ c.opens-verdict.ensures in
+    let opening : done ≡ open_answer sheet proposals = c.in_ok-opens.ensures in
     let some = some_bad (parties_of sheet) schedule _ c.schedule_ok.ensures c.if-not-schedule_ok.true (omega arith) in
     let r = Schedule (c.first_bad_byte.result - 1) in
     let e =
     ap (λ (k : ℕ). answer 8 (k - 1)) c.first_bad_byte.ensures
     ∙ run_unscheduled sheet proposals schedule a.out.now opening some in
-    let told = run_refused sheet proposals schedule a.out.now (Refused r) r refl e in
+    let told = run_refused sheet proposals schedule a.out.now (Err r) r refl e in
     record { result_value = told.0; out_after = told.1 }
 
 pub returns-then-out-n : goal.returns-then-out-n
@@ -54,10 +54,10 @@ returns-then-out-n c =
     let sheet = a.sheet.now in
     let proposals = a.proposals.now in
     let schedule = a.schedule.now in
-    let opening : done ≡ open_answer sheet proposals = sym (ap answer_of c.in_default.is) ∙ c.opens-verdict.ensures in
+    let opening : done ≡ open_answer sheet proposals = c.in_ok-opens.ensures in
     let none = first_none _ 1 schedule (held _ (sym c.schedule_ok.ensures ∙ c.if-not-schedule_ok.false)) in
     let e = run_unfit sheet proposals schedule a.out.now opening none (omega arith) in
-    let told = run_refused sheet proposals schedule a.out.now (Refused Output) Output refl e in
+    let told = run_refused sheet proposals schedule a.out.now (Err Output) Output refl e in
     record { result_value = told.0; out_after = told.1 }
 
 pub obey-parties-requires : goal.obey-parties-requires
@@ -66,7 +66,7 @@ obey-parties-requires c =
     let sheet = a.sheet.now in
     let proposals = a.proposals.now in
     let schedule = a.schedule.now in
-    let opening : done ≡ open_answer sheet proposals = sym (ap answer_of c.in_default.is) ∙ c.opens-verdict.ensures in
+    let opening : done ≡ open_answer sheet proposals = c.in_ok-opens.ensures in
     let says = opens_says sheet proposals (sym opening) in
     (says.0, refl, says.1, held _ (sym c.schedule_ok.ensures ∙ c.if-not-schedule_ok.false))
 
@@ -76,7 +76,7 @@ returns c =
     let sheet = a.sheet.now in
     let proposals = a.proposals.now in
     let schedule = a.schedule.now in
-    let opening : done ≡ open_answer sheet proposals = sym (ap answer_of c.in_default.is) ∙ c.opens-verdict.ensures in
+    let opening : done ≡ open_answer sheet proposals = c.in_ok-opens.ensures in
     let says = opens_says sheet proposals (sym opening) in
     let few = says.0.before.before.before.header.parties_most in
     let n = parties_of sheet in
