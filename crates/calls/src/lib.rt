@@ -1,18 +1,18 @@
-// The calls: stop and live on the parts of a session, and step, stop and live on a whole one, lent and by value.
+// The calls: stop and live on a session that is lent, and the forms of step, stop and live, lent and by value.
 #![tactic(auto)]
 
-pub mod parts;
+pub mod stopping;
 pub mod values;
 
 ghost use Rattle.std.specs.Prelude.{◌≡◌};
 ghost use Rattle.steps.specs.Calls.{told_of, step_told, stepped, stop_told, stopped, live_told};
 
+use answers::Refusal;
 use state::Session;
-use steps::reply::Reply;
 use values::After;
 
 // A step of a session that is lent: the place acted on, or 8 where nothing changes.
-pub fn step(s: &mut Session, party: u32) -> Reply
+pub fn step(s: &mut Session, party: u32) -> Result<u8, Refusal>
     ensures { (s.new ≡ stepped s.old party) × (told_of result ≡ step_told s.old party) }
 {
     let v = values::step_value(*s, party);
@@ -21,7 +21,7 @@ pub fn step(s: &mut Session, party: u32) -> Reply
 }
 
 // A stop of a party of a session that is lent: its status afterwards.
-pub fn stop(s: &mut Session, party: u32) -> Reply
+pub fn stop(s: &mut Session, party: u32) -> Result<u8, Refusal>
     ensures { (s.new ≡ stopped s.old party) × (told_of result ≡ stop_told s.old party) }
 {
     let v = values::stop_value(*s, party);
@@ -30,7 +30,7 @@ pub fn stop(s: &mut Session, party: u32) -> Reply
 }
 
 // How many parties of a session that is lent are live.
-pub fn live(s: &Session) -> Reply
+pub fn live(s: &Session) -> Result<u8, Refusal>
     ensures { told_of result ≡ live_told s.now }
 {
     values::live_value(*s)
@@ -55,7 +55,7 @@ pub fn stop_on(s: Session, party: u32) -> After
 }
 
 // A session by value, lent to `live`.
-pub fn live_on(s: Session) -> Reply
+pub fn live_on(s: Session) -> Result<u8, Refusal>
     ensures { told_of result ≡ live_told s }
 {
     live(&s)
