@@ -1,4 +1,4 @@
-// A session in bytes: its parts are read out of them and written into them, where they are 3,418.
+// A session in bytes: it is read out of them and written into them, where they are 3,418.
 #![tactic(auto)]
 
 mod parties;
@@ -10,101 +10,58 @@ ghost use Rattle.std.specs.Prelude.{◌≡◌, ◌++◌, cond, ◌&&◌, ◌≤�
 ghost use Rattle.sheet.specs.Sizes.{most_parties, most_units, most_sheet};
 ghost use Rattle.state.specs.Sizes.{cells};
 ghost use Rattle.image.specs.Sizes.{session_length, marks_at, entries_at};
-ghost use Rattle.state.specs.Session.{no_party, filled, of_parts};
+ghost use Rattle.state.specs.Session.{filled, of_parts};
 ghost use Rattle.image.specs.Image.{parties_bytes, session_bytes, session_of};
 
 use crate::sizes::{ENTRIES_AT, MARKS_AT, PROPOSALS_AT, PUBLISHED_AT, SHARED_LENGTH};
-use sheet::sizes::{MOST_PARTIES, MOST_SHEET, MOST_UNITS};
+use sheet::sizes::{MOST_PARTIES, MOST_SHEET};
 pub use sizes::SESSION_LENGTH;
-use state::{CELLS, Party};
+use state::{Party, Session};
 
-fn copy_parts(
-    bytes: &[u8],
-    sheet: &mut [u8; MOST_SHEET],
-    marks: &mut [u8; MOST_UNITS],
-    published: &mut [u8; CELLS],
-)
+fn read_whole(bytes: &[u8], s: &mut Session)
     requires { length bytes.now ≡ session_length }
-    ensures sheet_after { sheet.new ≡ (session_of bytes.now).sheet }
-    ensures marks_after { marks.new ≡ (session_of bytes.now).marks }
-    ensures published_after { published.new ≡ (session_of bytes.now).published }
+    ensures { s.new ≡ session_of bytes.now }
 {
-    slices::copy(bytes, MOST_SHEET, sheet, 0);
-    slices::copy(&bytes[MARKS_AT..], MOST_UNITS, marks, 0);
-    slices::copy(&bytes[PUBLISHED_AT..], CELLS, published, 0);
+    s.sheet.copy_from_slice(&bytes[..MOST_SHEET]);
+    s.proposals = proposals::numbers_from(&bytes[PROPOSALS_AT..], MOST_PARTIES);
+    s.marks.copy_from_slice(&bytes[MARKS_AT..PUBLISHED_AT]);
+    s.published.copy_from_slice(&bytes[PUBLISHED_AT..ENTRIES_AT]);
+    s.parties = parties::parties_from(&bytes[ENTRIES_AT..]);
 }
 
-// The sheet, the marks and the published candidates that the bytes say.
-pub fn read_parts(
-    bytes: &[u8],
-    sheet: &mut [u8; MOST_SHEET],
-    marks: &mut [u8; MOST_UNITS],
-    published: &mut [u8; CELLS],
-)
-    ensures sheet_after { sheet.new ≡ cond (eqb (length bytes.now) session_length) (session_of bytes.now).sheet sheet.old }
-    ensures marks_after { marks.new ≡ cond (eqb (length bytes.now) session_length) (session_of bytes.now).marks marks.old }
-    ensures published_after { published.new ≡ cond (eqb (length bytes.now) session_length) (session_of bytes.now).published published.old }
+// Reads the session that the bytes say into one that is lent.
+pub fn read(bytes: &[u8], s: &mut Session)
+    ensures { s.new ≡ cond (eqb (length bytes.now) session_length) (session_of bytes.now) s.old }
 {
     if bytes.len() == SESSION_LENGTH {
-        copy_parts(bytes, sheet, marks, published);
+        read_whole(bytes, s);
     }
 }
 
-// The proposals that the bytes say.
-pub fn proposals_of(bytes: &[u8]) -> [u32; MOST_PARTIES]
-    ensures { result ≡ cond (eqb (length bytes.now) session_length) (session_of bytes.now).proposals (replicate most_parties 0) }
-{
-    if bytes.len() != SESSION_LENGTH {
-        return [0; MOST_PARTIES];
-    }
-    proposals::numbers_from(&bytes[PROPOSALS_AT..], MOST_PARTIES)
-}
-
-// The parties that the bytes say.
-pub fn parties_of(bytes: &[u8]) -> [Party; MOST_PARTIES]
-    ensures { result ≡ cond (eqb (length bytes.now) session_length) (session_of bytes.now).parties (replicate most_parties no_party) }
-{
-    if bytes.len() != SESSION_LENGTH {
-        let none = Party::fresh(0);
-        return [none; MOST_PARTIES];
-    }
-    parties::parties_from(&bytes[ENTRIES_AT..])
-}
-
-fn put_acted(
-    marks: &[u8; MOST_UNITS],
-    published: &[u8; CELLS],
-    parties: [Party; MOST_PARTIES],
-    bytes: &mut [u8],
-)
+fn put_acted(s: &Session, bytes: &mut [u8])
     requires { length bytes.old ≡ session_length }
-    ensures { bytes.new ≡ take marks_at bytes.old ++ marks.now ++ published.now ++ parties_bytes parties }
+    ensures { bytes.new ≡ take marks_at bytes.old ++ s.now.marks ++ s.now.published ++ parties_bytes s.now.parties }
 {
-    slices::copy(marks, MOST_UNITS, bytes, MARKS_AT);
-    slices::copy(published, CELLS, bytes, PUBLISHED_AT);
-    parties::put_parties(&mut bytes[ENTRIES_AT..], parties);
+    bytes[MARKS_AT..PUBLISHED_AT].copy_from_slice(&s.marks);
+    bytes[PUBLISHED_AT..ENTRIES_AT].copy_from_slice(&s.published);
+    parties::put_parties(&mut bytes[ENTRIES_AT..], s.parties);
 }
 
-// What an act may change, over its bytes.
-pub fn write_acted(
-    marks: &[u8; MOST_UNITS],
-    published: &[u8; CELLS],
-    parties: [Party; MOST_PARTIES],
-    bytes: &mut [u8],
-)
-    ensures { bytes.new ≡ cond (eqb (length bytes.old) session_length) (take marks_at bytes.old ++ marks.now ++ published.now ++ parties_bytes parties) bytes.old }
+// What an act may change of a session, over its bytes.
+pub fn write_acted(s: &Session, bytes: &mut [u8])
+    ensures { bytes.new ≡ cond (eqb (length bytes.old) session_length) (take marks_at bytes.old ++ s.now.marks ++ s.now.published ++ parties_bytes s.now.parties) bytes.old }
 {
     if bytes.len() == SESSION_LENGTH {
-        put_acted(marks, published, parties, bytes);
+        put_acted(s, bytes);
     }
 }
 
-// The parties, over their bytes.
-pub fn write_parties(parties: [Party; MOST_PARTIES], bytes: &mut [u8])
-    ensures { bytes.new ≡ cond (eqb (length bytes.old) session_length) (take entries_at bytes.old ++ parties_bytes parties) bytes.old }
+// The parties of a session, over their bytes.
+pub fn write_parties(s: &Session, bytes: &mut [u8])
+    ensures { bytes.new ≡ cond (eqb (length bytes.old) session_length) (take entries_at bytes.old ++ parties_bytes s.now.parties) bytes.old }
 {
     if bytes.len() == SESSION_LENGTH {
-        parties::put_parties(&mut bytes[ENTRIES_AT..], parties);
+        parties::put_parties(&mut bytes[ENTRIES_AT..], s.parties);
     }
 }
 
