@@ -1,6 +1,7 @@
 // A session in bytes: its parts are read out of them and written into them, where they are 3,418.
 #![tactic(auto)]
 
+mod entries;
 mod parties;
 pub mod proposals;
 mod sizes;
@@ -57,18 +58,21 @@ pub fn proposals_of(bytes: &[u8]) -> [u32; MOST_PARTIES]
     if bytes.len() != SESSION_LENGTH {
         return [0; MOST_PARTIES];
     }
-    proposals::numbers_from(&bytes[PROPOSALS_AT..], MOST_PARTIES)
+    let mut proposals = [0; MOST_PARTIES];
+    entries::read_all(&bytes[PROPOSALS_AT..], &mut proposals);
+    proposals
 }
 
 // The parties that the bytes say.
 pub fn parties_of(bytes: &[u8]) -> [Party; MOST_PARTIES]
     ensures { result ≡ cond (eqb (length bytes.now) session_length) (session_of bytes.now).parties (replicate most_parties no_party) }
 {
-    if bytes.len() != SESSION_LENGTH {
-        let none = Party::fresh(0);
-        return [none; MOST_PARTIES];
+    let none = Party::fresh(0);
+    let mut parties = [none; MOST_PARTIES];
+    if bytes.len() == SESSION_LENGTH {
+        entries::read_all(&bytes[ENTRIES_AT..], &mut parties);
     }
-    parties::parties_from(&bytes[ENTRIES_AT..])
+    parties
 }
 
 fn put_acted(
@@ -82,7 +86,7 @@ fn put_acted(
 {
     slices::copy(marks, MOST_UNITS, bytes, MARKS_AT);
     slices::copy(published, CELLS, bytes, PUBLISHED_AT);
-    parties::put_parties(&mut bytes[ENTRIES_AT..], parties);
+    entries::put_all(&mut bytes[ENTRIES_AT..], &parties);
 }
 
 // What an act may change, over its bytes.
@@ -104,7 +108,7 @@ pub fn write_parties(parties: [Party; MOST_PARTIES], bytes: &mut [u8])
     ensures { bytes.new ≡ cond (eqb (length bytes.old) session_length) (take entries_at bytes.old ++ parties_bytes parties) bytes.old }
 {
     if bytes.len() == SESSION_LENGTH {
-        parties::put_parties(&mut bytes[ENTRIES_AT..], parties);
+        entries::put_all(&mut bytes[ENTRIES_AT..], &parties);
     }
 }
 
@@ -120,9 +124,9 @@ fn put_fresh(
     let n = sheet.len();
     slices::copy(sheet, n, bytes, 0);
     slices::put_zeros(bytes, n, MOST_SHEET - n);
-    proposals::put_proposals(&mut bytes[PROPOSALS_AT..], proposals);
+    entries::put_all(&mut bytes[PROPOSALS_AT..], &proposals);
     slices::put_zeros(bytes, MARKS_AT, SHARED_LENGTH);
-    parties::put_parties(&mut bytes[ENTRIES_AT..], parties);
+    entries::put_all(&mut bytes[ENTRIES_AT..], &parties);
 }
 
 // A session on which no party has acted: the sheet, and zeros to the end of its part, the proposals, no mark, no published candidate, the parties.

@@ -1,6 +1,5 @@
-// Slices of bytes: copies, zeros and numbers.
+// Slices of bytes: copies and zeros.
 ghost use Rattle.std.specs.Prelude.{◌≡◌, ◌++◌, ◌+◌, ◌≤◌, length, take, drop, replicate};
-ghost use Rattle.sheet.specs.Bytes.{bytes_of};
 
 // The first n bytes, over the n bytes from a place on of another slice.
 pub(crate) fn copy(from: &[u8], n: usize, to: &mut [u8], at: usize)
@@ -16,12 +15,4 @@ pub(crate) fn put_zeros(to: &mut [u8], at: usize, n: usize)
     ensures { to.new ≡ take at to.old ++ replicate n 0 ++ drop (at + n) to.old }
 {
     to[at..at + n].fill(0);
-}
-
-// A number's 4 bytes, at the start of what is lent.
-pub(crate) fn put_four(o: &mut [u8], x: u32)
-    requires { 4 ≤ length o.old }
-    ensures { o.new ≡ bytes_of 4 x ++ drop 4 o.old }
-{
-    o[..4].copy_from_slice(&x.to_be_bytes());
 }

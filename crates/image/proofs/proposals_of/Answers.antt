@@ -10,4 +10,4 @@ use Rattle.image.proofs.proposals_of.Goals as goal
 pub returns : goal.returns
 returns c =
     let b = c.args.bytes.now in
-    where_held _ _ _ (eq-eqb (length b) 3418 c.if-bytes-ne-SESSION_LENGTH.false) (c.numbers_from.ensures ∙ ap (proposals_of 16) (part_to_end b 1898))
+    where_held _ _ _ (eq-eqb (length b) 3418 c.if-bytes-ne-SESSION_LENGTH.false) (c.read_all.ensures ∙ ap (proposals_of 16) (part_to_end b 1898))

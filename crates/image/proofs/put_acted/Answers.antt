@@ -19,4 +19,4 @@ returns c =
     then_copied (kept b 1962 (omega arith)) marks c.copy.new.to 1024 many c.copy.ensures in
     let shown : Written b (take 1962 b ++ marks ++ published) 3242 c.copy-2.new.to =
     then_copied marked published c.copy-2.new.to 256 some c.copy-2.ensures in
-    then_full shown (parties_bytes c.args.parties) c.put_parties.new.o 176 c.requires c.put_parties.ensures
+    then_full shown (parties_bytes c.args.parties) c.put_all.new.o 176 c.requires c.put_all.ensures

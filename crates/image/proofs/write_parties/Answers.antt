@@ -12,4 +12,4 @@ returns-then-bytes-eq-SESSION_LENGTH c =
     let b = c.args.bytes.now in
     let l = c.if-bytes-eq-SESSION_LENGTH.true in
     where_held _ _ _ (eq-eqb (length b) 3418 l)
-    (then_full (kept b 3242 (omega arith)) (parties_bytes c.args.parties) c.put_parties.new.o 176 l c.put_parties.ensures)
+    (then_full (kept b 3242 (omega arith)) (parties_bytes c.args.parties) c.put_all.new.o 176 l c.put_all.ensures)
