@@ -1,25 +1,25 @@
 -- The front of what was filled with a slice's proposals is those proposals.
-use Prim.Native.Nat.{ℕ, ◌*◌, ◌≤◌}
+use Prim.Native.Nat.{ℕ, ◌-◌, ◌*◌}
 use mathlib.Core.Path.{◌≡◌, sym, ap, ◌∙◌}
-use mathlib.Core.List.{List}
-use native.Mathlib.Nat.{min-le_right}
-use native.Mathlib.Omega.{arith}
-use lib.ListN.{length, take, length-take}
+use mathlib.Core.List.{List, ◌++◌}
+use lib.ListN.{length, take, drop, replicate}
 use lib.Seq.{take_at}
+use Rattle.std.proofs.lemmas.List.{drop-replicate}
 use Rattle.sheet.specs.Bytes.{num}
 use Rattle.sheet.proofs.Ranges.{length_range}
 use Rattle.state.specs.Session.{filled}
-use Rattle.image.specs.Image.{proposal_count, proposals_in}
+use Rattle.image.specs.Image.{proposal_count, proposals_of, proposals_in}
 
-module _ (bytes numbers : List ℕ) (count : ℕ) (many : count ≡ proposal_count (length bytes)) (is : numbers ≡ filled 16 (proposals_in bytes)) where
-  size : length (proposals_in bytes) ≡ count
-  size = length_range (λ j. num bytes (4 * j) 4) 0 (proposal_count (length bytes)) ∙ sym many
+size : (bytes : List ℕ) (count : ℕ) → count ≡ proposal_count (length bytes) → length (proposals_in bytes) ≡ count
+size bytes count many = length_range (λ j. num bytes (4 * j) 4) 0 (proposal_count (length bytes)) ∙ sym many
 
-  pub front : take count numbers ≡ proposals_in bytes
-  front = ap (take count) is ∙ take_at (proposals_in bytes) _ count size
+-- what is filled from the front with as many as the slice holds
+pub filled_front : (bytes : List ℕ) (count : ℕ) → count ≡ proposal_count (length bytes)
+    → (front : List ℕ) → front ≡ proposals_of count bytes → front ++ drop count (replicate 16 0) ≡ filled 16 (proposals_in bytes)
+filled_front bytes count many front e =
+    rw (e, drop-replicate {X = ℕ} count 16 0) (λ i. proposals_of (many i) bytes ++ replicate (16 - sym (size bytes count many) i) 0)
 
-  pub front_length : length (take count numbers) ≡ count
-  front_length = ap length front ∙ size
-
-  pub front_fits : count ≤ length numbers
-  front_fits = omega (arith, front_length, length-take count numbers, min-le_right count (length numbers))
+-- and its front, as long
+pub front : (bytes numbers : List ℕ) (count : ℕ) → count ≡ proposal_count (length bytes) → numbers ≡ filled 16 (proposals_in bytes)
+    → take count numbers ≡ proposals_in bytes
+front bytes numbers count many is = ap (take count) is ∙ take_at (proposals_in bytes) _ count (size bytes count many)

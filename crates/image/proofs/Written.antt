@@ -1,11 +1,12 @@
 -- The parts of a session are put behind what stands written, one after the other, and the last one fills the slice.
 use Prim.Native.Nat.{ℕ, ◌+◌, ◌-◌, ◌≤◌}
-use mathlib.Core.Path.{◌≡◌, sym, ap, subst, ◌∙◌}
+use mathlib.Core.Path.{◌≡◌, refl, sym, ap, subst, ◌∙◌}
 use mathlib.Core.List.{List, ◌++◌, append-nil}
 use native.Mathlib.Omega.{arith}
 use lib.ListN.{length, take, drop, length-append, take-append-drop}
 use lib.Seq.{paste, take_at, take_all, drop_at, drop-drop, drop-length, length-take-le}
 use borrow.Rule.Slice.PartMut.{put_mid}
+use Rattle.std.proofs.lemmas.Slice.{put_mid-paste}
 pub use Rattle.sheet.proofs.Parts.{Written, lent, then_lent}
 
 module _ {A : Type 0} where
@@ -37,3 +38,8 @@ module _ {A : Type 0} where
         lent w more new k e
         ∙ ap (λ (z : List A). front ++ more ++ z) (ap (λ (i : ℕ). drop i o₀) (sym h) ∙ drop-length o₀)
         ∙ append-nil (front ++ more)
+
+  -- a part behind it is lent and comes back with more
+  pub then_mid : {o₀ front o : List A} {a : ℕ} → Written o₀ front a o → (more new : List A) (k : ℕ) → length more ≡ k → new ≡ more
+      → Written o₀ (front ++ more) (a + k) (put_mid a k o new)
+  then_mid {o₀} {front} {o} {a} w more new k l e = then_copied w more (put_mid a k o new) k l (put_mid-paste a k o new more k e refl (sym l))

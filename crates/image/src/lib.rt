@@ -1,6 +1,7 @@
 // A session in bytes: it is read out of them and written into them, where they are 3,418.
 #![tactic(auto)]
 
+mod entries;
 mod parties;
 pub mod proposals;
 mod sizes;
@@ -23,10 +24,10 @@ fn read_whole(bytes: &[u8], s: &mut Session)
     ensures { s.new ≡ session_of bytes.now }
 {
     s.sheet.copy_from_slice(&bytes[..MOST_SHEET]);
-    s.proposals = proposals::numbers_from(&bytes[PROPOSALS_AT..], MOST_PARTIES);
+    entries::read_all(&bytes[PROPOSALS_AT..], &mut s.proposals);
     s.marks.copy_from_slice(&bytes[MARKS_AT..PUBLISHED_AT]);
     s.published.copy_from_slice(&bytes[PUBLISHED_AT..ENTRIES_AT]);
-    s.parties = parties::parties_from(&bytes[ENTRIES_AT..]);
+    entries::read_all(&bytes[ENTRIES_AT..], &mut s.parties);
 }
 
 // Reads the session that the bytes say into one that is lent.
@@ -44,7 +45,7 @@ fn put_acted(s: &Session, bytes: &mut [u8])
 {
     bytes[MARKS_AT..PUBLISHED_AT].copy_from_slice(&s.marks);
     bytes[PUBLISHED_AT..ENTRIES_AT].copy_from_slice(&s.published);
-    parties::put_parties(&mut bytes[ENTRIES_AT..], s.parties);
+    entries::put_all(&mut bytes[ENTRIES_AT..], &s.parties);
 }
 
 // What an act may change of a session, over its bytes.
@@ -61,7 +62,7 @@ pub fn write_parties(s: &Session, bytes: &mut [u8])
     ensures { bytes.new ≡ cond (eqb (length bytes.old) session_length) (take entries_at bytes.old ++ parties_bytes s.now.parties) bytes.old }
 {
     if bytes.len() == SESSION_LENGTH {
-        parties::put_parties(&mut bytes[ENTRIES_AT..], s.parties);
+        entries::put_all(&mut bytes[ENTRIES_AT..], &s.parties);
     }
 }
 
@@ -77,9 +78,9 @@ fn put_fresh(
     let n = sheet.len();
     slices::copy(sheet, n, bytes, 0);
     slices::put_zeros(bytes, n, MOST_SHEET - n);
-    proposals::put_proposals(&mut bytes[PROPOSALS_AT..], proposals);
+    entries::put_all(&mut bytes[PROPOSALS_AT..], &proposals);
     slices::put_zeros(bytes, MARKS_AT, SHARED_LENGTH);
-    parties::put_parties(&mut bytes[ENTRIES_AT..], parties);
+    entries::put_all(&mut bytes[ENTRIES_AT..], &parties);
 }
 
 // A session on which no party has acted: the sheet, and zeros to the end of its part, the proposals, no mark, no published candidate, the parties.

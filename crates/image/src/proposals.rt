@@ -1,48 +1,60 @@
 // Proposals in bytes, 4 each.
-ghost use Rattle.std.specs.Prelude.{◌≡◌, ◌++◌, ◌*◌, ◌≤◌, length, drop};
+ghost use Rattle.std.specs.Prelude.{◌≡◌, ◌≤◌, ◌%◌, ◌/◌, ◌&&◌, cond, leb, eqb, length, take, refl};
+ghost use Rattle.sheet.specs.Bytes.{num, bytes_of};
 ghost use Rattle.sheet.specs.Sizes.{most_parties};
 ghost use Rattle.image.specs.Sizes.{proposal_length, proposals_length};
 ghost use Rattle.state.specs.Session.{filled};
-ghost use Rattle.image.specs.Image.{proposals_bytes, proposals_of, proposal_count, proposals_in};
+ghost use Rattle.image.specs.Image.{proposal_count, proposals_in};
 
+use crate::entries::{self, Entry};
 use crate::sizes::{PROPOSAL_LENGTH, PROPOSALS_LENGTH};
-use crate::slices;
-use sheet::bytes;
 use sheet::sizes::MOST_PARTIES;
+
+impl Entry for u32 {
+    const LENGTH: usize = PROPOSAL_LENGTH;
+
+    ghost LENGTH = { proposal_length };
+
+    ghost image = { bytes_of proposal_length };
+
+    ghost of_bytes = { λ b. num b 0 proposal_length };
+
+    ghost long = { λ _. refl };
+
+    fn read(s: &[u8]) -> u32 {
+        u32::from_be_bytes([s[0], s[1], s[2], s[3]])
+    }
+
+    fn put(self, o: &mut [u8]) {
+        o[..PROPOSAL_LENGTH].copy_from_slice(&self.to_be_bytes());
+    }
+}
 
 // The proposals that a slice holds, and zeros behind them.
 #[derive(Drop)]
 pub struct Proposals {
     pub count: usize,
     pub numbers: [u32; MOST_PARTIES],
+    ghost few: { count ≤ most_parties },
 }
 
-// How many proposals a slice of this length holds; 0, which is no number of parties, where it is of no sheet's.
-fn proposals_count(len: usize) -> usize
-    ensures { result ≡ proposal_count len }
-{
-    if PROPOSALS_LENGTH < len {
-        return 0;
+impl Proposals {
+    pub fn as_slice(&self) -> &[u32]
+        ensures { result.now ≡ take self.now.count self.now.numbers }
+    {
+        &self.numbers[..self.count]
     }
-    if len % PROPOSAL_LENGTH != 0 {
-        return 0;
-    }
-    len / PROPOSAL_LENGTH
 }
 
-// The proposals of n parties.
-pub(crate) fn numbers_from(s: &[u8], n: usize) -> [u32; MOST_PARTIES]
-    requires { (n ≤ most_parties) × (proposal_length * n ≤ length s.now) }
-    ensures { result ≡ filled most_parties (proposals_of n s.now) }
+// How many proposals a slice of this length holds, where it is of a sheet's.
+fn proposals_count(len: usize) -> Option<usize>
+    ensures { result ≡ cond (leb len proposals_length && eqb (len % proposal_length) 0) (Some (len / proposal_length)) None }
 {
-    let mut proposals = [0u32; MOST_PARTIES];
-    let mut j = 0;
-    while j < n {
-        let at = PROPOSAL_LENGTH * j;
-        proposals[j] = bytes::four(s[at], s[at + 1], s[at + 2], s[at + 3]);
-        j += 1;
+    if len <= PROPOSALS_LENGTH && len % PROPOSAL_LENGTH == 0 {
+        Some(len / PROPOSAL_LENGTH)
+    } else {
+        None
     }
-    proposals
 }
 
 // The proposals of a slice: as many as it holds, or none where it is of no sheet's length.
@@ -50,19 +62,8 @@ pub fn proposals_from(s: &[u8]) -> Proposals
     ensures count_value { result.count ≡ proposal_count (length s.now) }
     ensures numbers_value { result.numbers ≡ filled most_parties (proposals_in s.now) }
 {
-    let count = proposals_count(s.len());
-    let numbers = numbers_from(s, count);
+    let count = proposals_count(s.len()).unwrap_or(0);
+    let mut numbers = [0; MOST_PARTIES];
+    entries::read_all(s, &mut numbers[..count]);
     Proposals { count, numbers }
-}
-
-pub(crate) fn put_proposals(o: &mut [u8], proposals: [u32; MOST_PARTIES])
-    requires { proposals_length ≤ length o.old }
-    ensures { o.new ≡ proposals_bytes proposals ++ drop proposals_length o.old }
-{
-    let mut j = 0;
-    while j < MOST_PARTIES {
-        let at = PROPOSAL_LENGTH * j;
-        slices::put_four(&mut o[at..], proposals[j]);
-        j += 1;
-    }
 }

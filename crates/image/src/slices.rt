@@ -1,17 +1,12 @@
-// Slices of bytes: copies, zeros and numbers.
+// Slices of bytes: copies and zeros.
 ghost use Rattle.std.specs.Prelude.{◌≡◌, ◌++◌, ◌+◌, ◌≤◌, length, take, drop, replicate};
-ghost use Rattle.sheet.specs.Bytes.{bytes_of};
 
 // The first n bytes, over the n bytes from a place on of another slice.
 pub(crate) fn copy(from: &[u8], n: usize, to: &mut [u8], at: usize)
     requires { (n ≤ length from.now) × (at + n ≤ length to.old) }
     ensures { to.new ≡ take at to.old ++ take n from.now ++ drop (at + n) to.old }
 {
-    let mut j = 0;
-    while j < n {
-        to[at + j] = from[j];
-        j += 1;
-    }
+    to[at..at + n].copy_from_slice(&from[..n]);
 }
 
 // Zeros over the n bytes from a place on.
@@ -19,20 +14,5 @@ pub(crate) fn put_zeros(to: &mut [u8], at: usize, n: usize)
     requires { at + n ≤ length to.old }
     ensures { to.new ≡ take at to.old ++ replicate n 0 ++ drop (at + n) to.old }
 {
-    let mut j = 0;
-    while j < n {
-        to[at + j] = 0;
-        j += 1;
-    }
-}
-
-// A number's 4 bytes, at the start of what is lent.
-pub(crate) fn put_four(o: &mut [u8], x: u32)
-    requires { 4 ≤ length o.old }
-    ensures { o.new ≡ bytes_of 4 x ++ drop 4 o.old }
-{
-    o[0] = (x / 16777216 % 256) as u8;
-    o[1] = (x / 65536 % 256) as u8;
-    o[2] = (x / 256 % 256) as u8;
-    o[3] = (x % 256) as u8;
+    to[at..at + n].fill(0);
 }

@@ -26,21 +26,20 @@ pub const STEPS_AT: usize = 1;
 
 pub const DECISION_AT: usize = 3;
 
-// The two lengths and the last party, as wide as the numbers beside them.
-const HEAD: u16 = HEAD_LENGTH as u16;
-
-const EACH: u16 = PARTY_LENGTH as u16;
-
-const LAST_PARTY: u8 = MOST_PARTIES as u8;
+// How many bytes the record of n parties takes.
+fn record_length(n: u8) -> usize
+    ensures { result ≡ record_length n }
+{
+    HEAD_LENGTH + PARTY_LENGTH * usize::from(n)
+}
 
 // The record's first four bytes.
 fn put_head(o: &mut [u8], n: u8)
     requires { (n ≤ most_parties) × (head_length ≤ length o.old) }
     ensures { o.new ≡ record_head n ++ drop head_length o.old }
 {
-    let len = HEAD + EACH * (n as u16);
-    o[0] = (len / 256 % 256) as u8;
-    o[1] = (len % 256) as u8;
+    let len = record_length(n) as u16;
+    o[..VERSION_AT].copy_from_slice(&len.to_be_bytes());
     o[VERSION_AT] = VERSION;
     o[PARTIES_AT] = n;
 }
@@ -50,15 +49,9 @@ fn put_party(o: &mut [u8], p: Party)
     requires { party_length ≤ length o.old }
     ensures { o.new ≡ party_record p ++ drop party_length o.old }
 {
-    let steps = p.steps;
-    let decision = p.decision;
     o[0] = p.status;
-    o[1] = (steps / 256 % 256) as u8;
-    o[2] = (steps % 256) as u8;
-    o[3] = (decision / 16777216 % 256) as u8;
-    o[4] = (decision / 65536 % 256) as u8;
-    o[5] = (decision / 256 % 256) as u8;
-    o[6] = (decision % 256) as u8;
+    o[STEPS_AT..DECISION_AT].copy_from_slice(&p.steps.to_be_bytes());
+    o[DECISION_AT..PARTY_LENGTH].copy_from_slice(&p.decision.to_be_bytes());
 }
 
 // The record of the first n parties; the bytes past it stay.
@@ -67,12 +60,8 @@ fn put_whole(out: &mut [u8], n: u8, parties: [Party; MOST_PARTIES])
     ensures { out.new ≡ record_bytes n parties ++ drop (record_length n) out.old }
 {
     put_head(out, n);
-    let mut p: usize = 0;
-    while p < n as usize {
-        let at = HEAD_LENGTH + PARTY_LENGTH * p;
-        let party = parties[p];
-        put_party(&mut out[at..], party);
-        p += 1;
+    for (p, party) in parties[..usize::from(n)].iter().enumerate() {
+        put_party(&mut out[HEAD_LENGTH + PARTY_LENGTH * p..], *party);
     }
 }
 
@@ -82,7 +71,7 @@ pub fn put_record(out: &mut [u8], n: u8, parties: [Party; MOST_PARTIES])
         (record_bytes n parties ++ drop (record_length n) out.old)
         out.old }
 {
-    if n <= LAST_PARTY && HEAD_LENGTH + PARTY_LENGTH * (n as usize) <= out.len() {
+    if usize::from(n) <= MOST_PARTIES && record_length(n) <= out.len() {
         put_whole(out, n, parties);
     }
 }

@@ -37,9 +37,9 @@ returns c =
     let after1 : Written b front1 1898 c.put_zeros.new.to =
     up_to full (then_put after0 (replicate rest 0) c.put_zeros.new.to rest (zeros rest 0) c.put_zeros.ensures) in
     let o = c.put_zeros.new.to in
-    let after2 : Written b front2 1962 (put_mid 1898 (length o - 1898) o c.put_proposals.new.o) =
-    then_lent after1 (proposals_bytes c.args.proposals) c.put_proposals.new.o 64 c.put_proposals.ensures (length_proposals c.args.proposals all) in
+    let after2 : Written b front2 1962 (put_mid 1898 (length o - 1898) o c.put_all.new.o) =
+    then_lent after1 (proposals_bytes c.args.proposals) c.put_all.new.o 64 c.put_all.ensures (length_proposals c.args.proposals all) in
     let after3 : Written b front3 3242 c.put_zeros-2.new.to =
     then_put after2 (replicate 1280 0) c.put_zeros-2.new.to 1280 (zeros 1280 0) c.put_zeros-2.ensures in
     let parties = parties_bytes c.args.parties in
-    then_full after3 parties c.put_parties.new.o 176 size c.put_parties.ensures ∙ two_zeros front2 parties 1024 256
+    then_full after3 parties c.put_all-2.new.o 176 size c.put_all-2.ensures ∙ two_zeros front2 parties 1024 256
