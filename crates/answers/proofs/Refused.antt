@@ -1,6 +1,6 @@
 -- A call that is refused has a number that is not 0.
 use Prim.Native.Nat.{◌≤◌}
-use mathlib.Core.Path.{◌≡◌, sym, ap, ◌∙◌}
+use mathlib.Core.Path.{◌≡◌, refl, sym, ap, ◌∙◌}
 use mathlib.Core.Bool.{false}
 use native.Mathlib.Omega.{arith}
 use borrow.Author.Tests.{ne_eqb}
@@ -30,3 +30,18 @@ refused_number a v r e d =
     let same = ap (λ (b : Answer). b.number) (sym e ∙ ap answer_of d) in
     let some = refuses r in
     ne_eqb a.number 0 (λ z. omega arith)
+
+-- 11 is the number of one refusal alone
+pub only_output : (r : Refusal) → number_of r ≡ 11 → r ≡ Output
+only_output Short e = absurd (omega (arith, e))
+only_output Version e = absurd (omega (arith, e))
+only_output Header e = absurd (omega (arith, e))
+only_output Length e = absurd (omega (arith, e))
+only_output (Row k) e = absurd (omega (arith, e))
+only_output (Writer k) e = absurd (omega (arith, e))
+only_output Proposals e = absurd (omega (arith, e))
+only_output (Schedule k) e = absurd (omega (arith, e))
+only_output Session e = absurd (omega (arith, e))
+only_output Party e = absurd (omega (arith, e))
+only_output Output e = refl
+only_output NoSheet e = absurd (omega (arith, e))

@@ -19,7 +19,7 @@ use Rattle.steps.specs.Moves.{Move, step_of, stop_of, whose, moved, moved_by}
 use Rattle.steps.specs.Trace.{is_act, acts, acts_told}
 use Rattle.steps.specs.Calls.{Told, told, unless_refused, unless_kept}
 use Rattle.steps.specs.Reach.{Reached}
-use Rattle.steps.proofs.Refusals.{told_0, told_10, past, answered}
+use Rattle.steps.proofs.Refusals.{told_10, past, answered}
 use Rattle.steps.proofs.Reached.{reached_parties, reached_well_formed}
 use Rattle.agreement.specs.Demand.{Opens}
 use Rattle.agreement.proofs.Demands.{rules}
@@ -100,7 +100,7 @@ module _ (sheet proposals : List ℕ) (o : Opens sheet proposals) (low : Below 2
 
           by : (w : Bool) → within 1 n i ≡ w → Leaves s sized tell go (cond w (act s i) s) (cond w 0 10) (cond w (value s i) 0)
           by true e =
-              let passes = past s i (told 0 0) (told_0 (well_formed s) (within 1 (layout s).parties i) 0 well (sym test ∙ e)) refl in
+              let passes = past s i well (sym test ∙ e) in
               let done = answered s i (act s i) (value s i) passes in
               let low = subst⁻¹ (λ (t : Told). t.value < 2 ^ 24) done.1 fits.value_below in
               let left = leaves_next s sized tell go (value s i) low done.1 in

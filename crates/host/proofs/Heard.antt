@@ -18,7 +18,6 @@ use Rattle.sheet.proofs.FirstBad.{first_on, first_here}
 use Rattle.state.specs.Opening.{open_answer}
 use Rattle.record.specs.Record.{record_length}
 use Rattle.steps.specs.Run.{byte_ok, run_answer}
-use Rattle.host.specs.Word.{answer_word}
 use Rattle.host.specs.Calls.{bad_at}
 use Rattle.host.proofs.Opened.{open_most}
 
@@ -79,7 +78,7 @@ module _ (last : ℕ) (sheet xs schedule : List ℕ) (long : last < length sched
   whole = run_answer sheet xs (bad_at last schedule) 0
 
   abbrev Cases : Type 0
-  Cases = ((fronts ≡ answer 11 0) × (whole ≡ answer 8 last)) ⊎ ((answer_word fronts ≢ 11) × (fronts ≡ whole))
+  Cases = ((fronts ≡ answer 11 0) × (whole ≡ answer 8 last)) ⊎ ((fronts.number ≢ 11) × (fronts ≡ whole))
 
   -- where the opening is not refused
   module _ (e : eqb (open_answer sheet xs).number 0 ≡ true) where
@@ -106,7 +105,7 @@ module _ (last : ℕ) (sheet xs schedule : List ℕ) (long : last < length sched
         let is : fronts ≡ answer 8 (bad - 1) = rw (e, d) in
         let at : whole_at bad ≡ answer 8 (bad - 1) = rw d in
         inr (
-          λ z. let w = sym (ap answer_word is) ∙ z in absurd (omega arith),
+          λ z. let w = sym (ap (λ (a : Answer). a.number) is) ∙ z in absurd (omega arith),
           is ∙ sym (whole_is ∙ ap (λ (t : Bool). whole_at (cond t (1 + last) bad)) d ∙ at),
         )
 
@@ -119,20 +118,19 @@ module _ (last : ℕ) (sheet xs schedule : List ℕ) (long : last < length sched
       by false e b d =
           let is : fronts ≡ open_answer sheet xs = rw e in
           let most = open_most sheet xs in
-          inr (λ z. let w = sym (ap answer_word is) ∙ z in absurd (omega arith), is ∙ sym (rw e))
+          inr (λ z. let w = sym (ap (λ (a : Answer). a.number) is) ∙ z in absurd (omega arith), is ∙ sym (rw e))
 
-  -- the word of the front's answer is that of the whole's, or 11, and then the bad byte is the first
-  module _ (w : ℕ) (e : w ≡ answer_word fronts) where
-    pub bad_behind : w ≡ 11 → answer_word (answer 8 last) ≡ answer_word whole
-    bad_behind z = by cases
-      where
-        by : Cases → answer_word (answer 8 last) ≡ answer_word whole
-        by (inl x) = ap answer_word (sym x.1)
-        by (inr x) = absurd (x.0 (sym e ∙ z))
+  -- the front's answer is the whole's, or 11, and then the bad byte is the first
+  pub bad_behind : fronts.number ≡ 11 → answer 8 last ≡ whole
+  bad_behind z = by cases
+    where
+      by : Cases → answer 8 last ≡ whole
+      by (inl x) = sym x.1
+      by (inr x) = absurd (x.0 z)
 
-    pub bad_before : w ≢ 11 → w ≡ answer_word whole
-    bad_before n = by cases
-      where
-        by : Cases → w ≡ answer_word whole
-        by (inl x) = absurd (n (e ∙ ap answer_word x.0))
-        by (inr x) = e ∙ ap answer_word x.1
+  pub bad_before : fronts.number ≢ 11 → fronts ≡ whole
+  bad_before n = by cases
+    where
+      by : Cases → fronts ≡ whole
+      by (inl x) = absurd (n (ap (λ (a : Answer). a.number) x.0))
+      by (inr x) = x.1

@@ -1,6 +1,7 @@
 -- The open call is refused as the session's opening is, then where the slice is of another length; else the fresh session is written.
+use Rattle.std.specs.Prelude.{Err}
 use Prim.Native.Nat.{ℕ, ◌-◌, min}
-use mathlib.Core.Path.{◌≡◌, sym, ap, ◌∙◌}
+use mathlib.Core.Path.{◌≡◌, refl, sym, ap, ◌∙◌}
 use mathlib.Core.Logic.{◌≢◌}
 use mathlib.Core.List.{List, ◌++◌, map}
 use mathlib.Core.Bool.{Bool, true, ◌&&◌, cond}
@@ -11,8 +12,6 @@ use Rattle.sheet.specs.Rows.{parties_of}
 use Rattle.sheet.specs.Lists.{from}
 use Rattle.answers.specs.Answers.{Answer, answer, done, answer_of}
 use Rattle.answers.specs.declared.Refusal.{Refusal}
-use Rattle.answers.specs.declared.Verdict.{Verdict}
-use Rattle.answers.specs.declared.Verdict.TheVariants.{Refused}
 use Rattle.state.specs.Session.{fresh_party, no_party, filled, fresh_session, of_parts}
 use Rattle.state.specs.Opening.{open_answer}
 use Rattle.state.specs.declared.kept.Party.{Party}
@@ -20,7 +19,6 @@ use Rattle.state.specs.declared.kept.Session.{Session}
 use Rattle.answers.proofs.Refused.{refused_number}
 use Rattle.state.proofs.Filled.{fresh_taken, sheet_most}
 use Rattle.state.proofs.Openings.{opens_says}
-use Rattle.host.specs.Word.{answer_word}
 use Rattle.image.specs.Image.{proposals_in, session_bytes}
 use Rattle.host.specs.Calls.{proposals_for, host_open, open_bytes}
 use Rattle.host.proofs.Opened.{Opens, if_opened, if_refused}
@@ -29,9 +27,9 @@ module _ (sheet bytes session : List ℕ) where
   abbrev xs : List ℕ
   xs = proposals_in bytes
 
-  -- the word and the bytes afterwards
-  abbrev pub Answers : ℕ → List ℕ → Type 0
-  Answers w now = (w ≡ answer_word (host_open sheet bytes (length session))) × (now ≡ open_bytes sheet bytes session)
+  -- the answer and the bytes afterwards
+  abbrev pub Answers : Answer → List ℕ → Type 0
+  Answers a now = (a ≡ host_open sheet bytes (length session)) × (now ≡ open_bytes sheet bytes session)
 
   abbrev fresh : List ℕ
   fresh = session_bytes (fresh_session sheet (proposals_for sheet bytes) (parties_of sheet))
@@ -40,25 +38,25 @@ module _ (sheet bytes session : List ℕ) where
   bytes_at : Answer → List ℕ
   bytes_at a = cond (eqb a.number 0) fresh session
 
-  answers_at : (a : Answer) → host_open sheet bytes (length session) ≡ a → Answers (answer_word a) (bytes_at a)
+  answers_at : (a : Answer) → host_open sheet bytes (length session) ≡ a → Answers a (bytes_at a)
   unfolding bytes_at
-  answers_at a e = (ap answer_word (sym e), ap bytes_at (sym e))
+  answers_at a e = (sym e, ap bytes_at (sym e))
 
-  -- the verdict refuses
-  pub open_refused : (v : Verdict) (r : Refusal) → v ≡ Refused r → answer_of v ≡ open_answer sheet xs → Answers (answer_word (answer_of (Refused r))) session
+  -- the opening is refused
+  pub open_refused : (r : Refusal) → answer_of {A = Unit {0}} (Err r) ≡ open_answer sheet xs → Answers (answer_of {A = Unit {0}} (Err r)) session
   unfolding bytes_at
-  open_refused v r o e =
-      let some = refused_number (open_answer sheet xs) v r e o in
+  open_refused r e =
+      let some = refused_number {A = Unit {0}} (open_answer sheet xs) (Err r) r e refl in
       let left : bytes_at (open_answer sheet xs) ≡ session = rw some in
       let a = answers_at (open_answer sheet xs) ((if_refused sheet bytes some).1 _) in
-      (ap answer_word (ap answer_of (sym o) ∙ e) ∙ a.0, sym left ∙ a.1)
+      (e ∙ a.0, sym left ∙ a.1)
 
-  -- the verdict is done
+  -- the opening is done
   module _ (e : done ≡ open_answer sheet xs) where
     abbrev opens : Opens sheet bytes
     opens = if_opened sheet bytes (sym e)
 
-    pub open_short : length session ≢ 3418 → Answers (answer_word (answer 11 0)) session
+    pub open_short : length session ≢ 3418 → Answers (answer 11 0) session
     unfolding bytes_at
     open_short n = answers_at (answer 11 0) (opens.2 _ ∙ rw (ne_eqb (length session) 3418 n))
 
@@ -69,7 +67,7 @@ module _ (sheet bytes session : List ℕ) where
       written = of_parts (filled 1898 sheet) numbers (replicate 1024 0) (replicate 256 0) parties
 
       pub open_filled : length session ≡ 3418 → (now : List ℕ)
-          → now ≡ cond (eqb (length session) 3418 && leb (length sheet) 1898) (session_bytes written) session → Answers 0 now
+          → now ≡ cond (eqb (length session) 3418 && leb (length sheet) 1898) (session_bytes written) session → Answers done now
       unfolding bytes_at
       open_filled l now is =
           let rules = (opens_says sheet xs (sym e)).0 in

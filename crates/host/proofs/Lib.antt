@@ -1,6 +1,6 @@
 -- Laws that several proofs cite; each file says its argument in its first line.
 pub mod Packing
-pub mod Lent
+pub mod OnSession
 pub mod Opened
 pub mod Heard
 pub mod HostOpen

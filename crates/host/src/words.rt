@@ -1,33 +1,24 @@
 // An answer in one word.
 ghost use Rattle.std.specs.Prelude.{◌≡◌};
-ghost use Rattle.answers.specs.Answers.{number_of, position_of, answer_of};
+ghost use Rattle.answers.specs.Answers.{answer_of};
 ghost use Rattle.steps.specs.Calls.{told_of};
-ghost use Rattle.host.specs.Word.{word, answer_word, told_word};
+ghost use Rattle.host.specs.Word.{answer_word, told_word};
 
-use answers::{Refusal, Verdict};
-use steps::reply::Reply;
+use answers::Refusal;
 
-// A refusal: its number, the value 0, its position.
-pub(crate) fn refused(r: Refusal) -> u64
-    ensures { result ≡ word (number_of r) 0 (position_of r) }
+// Of a call that gives a place, a status or a live number: the number, the value, the position.
+pub(crate) fn told(answer: Result<u8, Refusal>) -> u64
+    ensures { result ≡ told_word (told_of answer) }
 {
-    r.number() as u64 + (r.position() as u64 % 4294967296) * 4294967296
-}
-
-pub(crate) fn verdict(v: Verdict) -> u64
-    ensures { result ≡ answer_word (answer_of v) }
-{
-    match v {
-        Verdict::Done => 0,
-        Verdict::Refused(r) => refused(r),
+    match answer {
+        Ok(value) => value as u64 * 256,
+        Err(r) => r.number() as u64 + (r.position() as u64 % 4294967296) * 4294967296,
     }
 }
 
-pub(crate) fn reply(v: Reply) -> u64
-    ensures { result ≡ told_word (told_of v) }
+// Of a call that gives no value.
+pub(crate) fn done(answer: Result<(), Refusal>) -> u64
+    ensures { result ≡ answer_word (answer_of answer) }
 {
-    match v {
-        Reply::Gave(value) => value as u64 * 256,
-        Reply::Refused(r) => refused(r),
-    }
+    told(answer.map(|()| 0))
 }

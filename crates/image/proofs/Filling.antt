@@ -19,7 +19,7 @@ pub filled_front : (bytes : List ℕ) (count : ℕ) → count ≡ proposal_count
 filled_front bytes count many front e =
     rw (e, drop-replicate {X = ℕ} count 16 0) (λ i. proposals_of (many i) bytes ++ replicate (16 - sym (size bytes count many) i) 0)
 
--- and its front, as long
-pub front : (bytes numbers : List ℕ) (count : ℕ) → count ≡ proposal_count (length bytes) → numbers ≡ filled 16 (proposals_in bytes)
-    → take count numbers ≡ proposals_in bytes
-front bytes numbers count many is = ap (take count) is ∙ take_at (proposals_in bytes) _ count (size bytes count many)
+-- and its front, as long, is what is lent of it
+pub lent : (bytes : List ℕ) {numbers slice : List ℕ} {count : ℕ} → count ≡ proposal_count (length bytes) → numbers ≡ filled 16 (proposals_in bytes)
+    → slice ≡ take count numbers → slice ≡ proposals_in bytes
+lent bytes {count = count} many is e = e ∙ ap (take count) is ∙ take_at (proposals_in bytes) _ count (size bytes count many)

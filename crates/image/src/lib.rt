@@ -26,7 +26,8 @@ fn read_whole(bytes: &[u8], s: &mut Session)
     s.sheet.copy_from_slice(&bytes[..MOST_SHEET]);
     entries::read_all(&bytes[PROPOSALS_AT..], &mut s.proposals);
     s.marks.copy_from_slice(&bytes[MARKS_AT..PUBLISHED_AT]);
-    s.published.copy_from_slice(&bytes[PUBLISHED_AT..ENTRIES_AT]);
+    s.published
+        .copy_from_slice(&bytes[PUBLISHED_AT..ENTRIES_AT]);
     entries::read_all(&bytes[ENTRIES_AT..], &mut s.parties);
 }
 

@@ -1,7 +1,7 @@
 -- The front stays, and marks, published candidates and parties are written one behind the other, until the slice is full.
-use Rattle.std.proofs.Common.{◌≡◌, ◌++◌, length, take, arith, rules}
+use Rattle.std.proofs.Common.{◌≡◌, length, arith, rules}
 use Rattle.image.specs.Image.{parties_bytes}
-use Rattle.image.proofs.Written.{Written, kept, then_mid, then_full}
+use Rattle.image.proofs.Written.{kept, then_mid, then_full}
 use Rattle.image.proofs.put_acted.Goals as goal
 
 pub returns : goal.returns

@@ -11,7 +11,7 @@ use Rattle.state.proofs.Carried.{front_carried}
 use Rattle.state.proofs.FormWords.{well_formed_says}
 use Rattle.steps.specs.Step.{Place, is_live, place_of, counted, party_acted, marks_after, published_after, acted, step, place_acted}
 use Rattle.steps.specs.Ready.{Past, Ready}
-use Rattle.steps.specs.Calls.{told, told_of}
+use Rattle.steps.specs.Calls.{told}
 use Rattle.steps.proofs.Refusals.{refused, answered}
 use Rattle.session.proofs.stepping.step_in.Goals as goal
 

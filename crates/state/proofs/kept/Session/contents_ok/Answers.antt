@@ -10,12 +10,12 @@ returns-else-proposals_ok c =
     let s = c.args.self.now in
     let two : c.if-marks_ok.value ≡ (marks_ok c.args.units s.marks && published_ok c.args.n s.published) =
     elim c.if-marks_ok.branch [
-      then-marks_ok w ↦ and_then c.marks_ok.ensures w.if-marks_ok.true (w.value-is ∙ w.published_ok.ensures)
-    | else-marks_ok w ↦ and_else c.marks_ok.ensures _ w.if-marks_ok.false w.value-is
+      | then-marks_ok w ↦ and_then c.marks_ok.ensures w.if-marks_ok.true (w.value-is ∙ w.published_ok.ensures)
+      | else-marks_ok w ↦ and_else c.marks_ok.ensures _ w.if-marks_ok.false w.value-is
     ] in
     let three : c.if-published_ok.value ≡ (marks_ok c.args.units s.marks && published_ok c.args.n s.published && proposals_ok c.args.n s.proposals) =
     elim c.if-published_ok.branch [
-      then-published_ok w ↦ and_then two w.if-published_ok.true (w.value-is ∙ w.proposals_ok.ensures)
-    | else-published_ok w ↦ and_else two _ w.if-published_ok.false w.value-is
+      | then-published_ok w ↦ and_then two w.if-published_ok.true (w.value-is ∙ w.proposals_ok.ensures)
+      | else-published_ok w ↦ and_else two _ w.if-published_ok.false w.value-is
     ] in
     and_else three _ c.if-proposals_ok.false refl

@@ -2,18 +2,18 @@
 use Rattle.std.proofs.Common.{Bool, ◌&&◌, true, [], ◌∷◌, get_or}
 use Rattle.std.specs.Int.{w16, from_be_bytes}
 use Rattle.sheet.proofs.Endian.{big_2}
-use mathlib.Core.Path.{◌≡◌, sym, ap, ◌∙◌}
+use mathlib.Core.Path.{◌≡◌, sym, ◌∙◌}
 use Prim.Native.Nat.{ℕ, ◌≤◌}
 use Rattle.sheet.specs.Rows.{parties_of}
 use Rattle.rules.specs.Words.{Rules6}
-use Rattle.sheet.proofs.Folds.{held, fails, failed}
+use Rattle.sheet.proofs.Folds.{held}
 use Rattle.sheet.proofs.Numbers.{num_two}
 use Rattle.state.specs.Session.{carried, layout}
-use Rattle.state.specs.WellFormed.{carried_ok, marks_ok, published_ok, proposals_ok, parties_ok, well_formed}
+use Rattle.state.specs.WellFormed.{carried_ok, marks_ok, published_ok, proposals_ok, parties_ok}
 use Rattle.state.specs.declared.kept.Session.{Session}
-use Rattle.state.proofs.Tested.{passed, stopped, both, last}
+use Rattle.state.proofs.Tested.{passed}
 use Rattle.state.proofs.Carried.{carried_parties, carried_units, copy_whole, most_parties_lem}
-use Rattle.state.proofs.FormWords.{carried_words, passed_says}
+use Rattle.state.proofs.FormWords.{carried_words}
 use Rattle.state.proofs.kept.Session.is_well_formed.Goals as goal
 
 module _ (s : Session) (e : carried_ok s.sheet ≡ true) where

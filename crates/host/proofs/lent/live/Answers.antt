@@ -1,0 +1,15 @@
+-- The session is read out of the bytes, and its parties are counted.
+use Rattle.std.proofs.Common.{sym, ap, ◌∙◌}
+use Rattle.std.proofs.lemmas.Result.{err_from_is_err_and}
+use Rattle.steps.specs.Calls.{live_told}
+use Rattle.host.proofs.OnSession.{other_length, this_length}
+use Rattle.host.proofs.lent.live.Goals as goal
+
+pub returns-in_err-read : goal.returns-in_err-read
+returns-in_err-read c =
+    let no = c.in_err-read.ensures.refused in
+    let p = err_from_is_err_and c.from_residual.result c.from_residual.ensures.1 in
+    rw (p.1, p.2, no.0) (sym (other_length c.args.session.now live_told no.1))
+
+pub returns : goal.returns
+returns c = c.live_in.ensures ∙ ap live_told c.in_ok-read.ensures.read.1 ∙ sym (this_length c.args.session.now live_told c.in_ok-read.ensures.read.0)
