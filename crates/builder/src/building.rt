@@ -11,7 +11,7 @@ ghost use Rattle.builder.specs.Given.{InRange, Given};
 use sheet::rows;
 use sheet::rows::{Row, Slot};
 use sheet::sizes::{
-    BOUND_AT, HEADER_LENGTH, KIND_AT, LENGTH_AT, OWN_AT, PAIR_AT, PARTIES_AT, ROW_LENGTH, START_AT,
+    BOUND_AT, HEADER_LENGTH, KIND_AT, LENGTH_AT, MASK_AT, OWN_AT, PAIR_AT, PARTIES_AT, ROW_LENGTH, START_AT,
     UNITS_AT, VERSION, VERSION_AT,
 };
 
@@ -146,39 +146,15 @@ fn built_row(kind: u32, bound: u32, parties: u32, p: Slot, k: usize) -> Row
     }
 }
 
-// A number's two bytes, at a place.
-fn put_two(o: &mut [u8], at: usize, x: u16)
-    requires { at + 2 ≤ length o.old }
-    ensures { o.new ≡ take at o.old ++ (bytes_of 2 x ++ drop (at + 2) o.old) }
-{
-    o[at] = (x / 256 % 256) as u8;
-    o[at + 1] = (x % 256) as u8;
-}
-
-// A mask's eight bytes, in their place of a row.
-fn put_mask(o: &mut [u8], m: u64)
-    requires { 10 ≤ length o.old }
-    ensures { o.new ≡ take 2 o.old ++ (bytes_of 8 m ++ drop 10 o.old) }
-{
-    o[2] = (m / 72057594037927936 % 256) as u8;
-    o[3] = (m / 281474976710656 % 256) as u8;
-    o[4] = (m / 1099511627776 % 256) as u8;
-    o[5] = (m / 4294967296 % 256) as u8;
-    o[6] = (m / 16777216 % 256) as u8;
-    o[7] = (m / 65536 % 256) as u8;
-    o[8] = (m / 256 % 256) as u8;
-    o[9] = (m % 256) as u8;
-}
-
 // A row's 14 bytes, at the start of what is lent.
 fn put_row(o: &mut [u8], w: Row)
     requires { row_length ≤ length o.old }
     ensures { o.new ≡ row_bytes w ++ drop row_length o.old }
 {
-    put_two(o, START_AT, w.start);
-    put_mask(o, w.mask);
-    put_two(o, OWN_AT, w.own);
-    put_two(o, PAIR_AT, w.pair);
+    o[START_AT..MASK_AT].copy_from_slice(&w.start.to_be_bytes());
+    o[MASK_AT..OWN_AT].copy_from_slice(&w.mask.to_be_bytes());
+    o[OWN_AT..PAIR_AT].copy_from_slice(&w.own.to_be_bytes());
+    o[PAIR_AT..ROW_LENGTH].copy_from_slice(&w.pair.to_be_bytes());
 }
 
 // The header's 8 bytes.
@@ -186,12 +162,14 @@ fn put_header(o: &mut [u8], kind: u32, bound: u32, parties: u32)
     requires { (Given kind bound parties) × (header_length ≤ length o.old) }
     ensures { o.new ≡ header_bytes kind bound parties (built_units kind bound parties) ++ drop header_length o.old }
 {
-    put_two(o, LENGTH_AT, rows::sheet_length(parties as u8) as u16);
+    let length = rows::sheet_length(parties as u8) as u16;
+    o[LENGTH_AT..VERSION_AT].copy_from_slice(&length.to_be_bytes());
     o[VERSION_AT] = VERSION;
     o[KIND_AT] = kind as u8;
     o[BOUND_AT] = bound as u8;
     o[PARTIES_AT] = parties as u8;
-    put_two(o, UNITS_AT, built_units(kind, bound, parties));
+    let units = built_units(kind, bound, parties);
+    o[UNITS_AT..HEADER_LENGTH].copy_from_slice(&units.to_be_bytes());
 }
 
 // The whole sheet; the bytes past it stay.
