@@ -11,8 +11,8 @@ ghost use Rattle.builder.specs.Given.{InRange, Given};
 use sheet::rows;
 use sheet::rows::{Row, Slot};
 use sheet::sizes::{
-    BOUND_AT, HEADER_LENGTH, KIND_AT, LENGTH_AT, MASK_AT, OWN_AT, PAIR_AT, PARTIES_AT, ROW_LENGTH, START_AT,
-    UNITS_AT, VERSION, VERSION_AT,
+    BOUND_AT, HEADER_LENGTH, KIND_AT, LENGTH_AT, MASK_AT, OWN_AT, PAIR_AT, PARTIES_AT, ROW_LENGTH,
+    START_AT, UNITS_AT, VERSION, VERSION_AT,
 };
 
 fn is_given1(bound: u32, parties: u32) -> bool
@@ -65,48 +65,45 @@ fn power(j: u16) -> u64
     1 << (j as u64)
 }
 
-// Kind 1: the table's rows.
+// Kind 1: the rows, in the sheet's order.
+const TABLE: [Row; 5] = [
+    Row {
+        start: 2,
+        mask: 3,
+        own: 2,
+        pair: 3,
+    },
+    Row {
+        start: 3,
+        mask: 7,
+        own: 4,
+        pair: 0,
+    },
+    Row {
+        start: 14,
+        mask: 3,
+        own: 14,
+        pair: 15,
+    },
+    Row {
+        start: 18,
+        mask: 7,
+        own: 20,
+        pair: 19,
+    },
+    Row {
+        start: 15,
+        mask: 31,
+        own: 16,
+        pair: 0,
+    },
+];
+
 fn table_row(k: usize) -> Row
+    requires { k < 5 }
     ensures { result ≡ lib.ListN.get_or rows1 k Rattle.sheet.specs.Rows.no_row }
 {
-    match k {
-        0 => Row {
-            start: 2,
-            mask: 3,
-            own: 2,
-            pair: 3,
-        },
-        1 => Row {
-            start: 3,
-            mask: 7,
-            own: 4,
-            pair: 0,
-        },
-        2 => Row {
-            start: 14,
-            mask: 3,
-            own: 14,
-            pair: 15,
-        },
-        3 => Row {
-            start: 18,
-            mask: 7,
-            own: 20,
-            pair: 19,
-        },
-        4 => Row {
-            start: 15,
-            mask: 31,
-            own: 16,
-            pair: 0,
-        },
-        _ => Row {
-            start: 0,
-            mask: 0,
-            own: 0,
-            pair: 0,
-        },
-    }
+    TABLE[k]
 }
 
 // Kind 2: a row in its round's word.
@@ -178,14 +175,10 @@ pub(crate) fn put_sheet(out: &mut [u8], kind: u32, bound: u32, parties: u32)
     ensures { out.new ≡ built_sheet kind bound parties ++ drop (sheet_length parties) out.old }
 {
     put_header(out, kind, bound, parties);
-    let count = rows::row_count(parties as u8);
     let mut p = Slot::first();
-    let mut k = 0;
-    while k < count {
-        let w = built_row(kind, bound, parties, p, k);
+    for k in 0..rows::row_count(parties as u8) {
         let at = HEADER_LENGTH + ROW_LENGTH * k;
-        put_row(&mut out[at..], w);
+        put_row(&mut out[at..], built_row(kind, bound, parties, p, k));
         p = p.next();
-        k += 1;
     }
 }

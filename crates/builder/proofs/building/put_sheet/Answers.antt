@@ -1,5 +1,5 @@
 -- The loop's invariant: the header and k rows stand written, p is the next row's, and past them all is as it was; a turn writes one row more.
-use Rattle.std.proofs.Common.{◌≡◌, ◌++◌, ◌+◌, ◌*◌, ◌-◌, refl, ap, ◌∙◌, arith, ℕ, length, take, drop, rules}
+use Rattle.std.proofs.Common.{◌≡◌, ◌++◌, ◌+◌, ◌*◌, ◌-◌, refl, ap, ◌∙◌, arith, ℕ, length, take, drop}
 use Rattle.sheet.specs.Rows.{slots, row_count}
 use Rattle.sheet.specs.declared.rows.Row.{Row}
 use Rattle.sheet.proofs.Parts.{Written, since}
@@ -16,13 +16,11 @@ loop-k-preserved c =
     let n = a.parties in
     let at = 8 + 14 * l.k in
     let row = at_slot n l.k l.p l.invariant.0 (omega arith) in
-    let bytes = c.put_row.ensures ∙ ap (λ (w : Row). row_bytes w ++ drop 14 (take (length l.out - at) (drop at l.out))) c.built_row-w.ensures in
+    let bytes = c.put_row.ensures ∙ ap (λ (w : Row). row_bytes w ++ drop 14 (take (length l.out - at) (drop at l.out))) c.built_row.ensures in
     let r = c.requires.0.numbers in (
       rw (c.next-p.ensures ∙ after_next l.p (let last = row.last in omega arith)) (at_next l.k l.p l.invariant.0),
-      omega arith,
-      search rules,
       turn (bytes_at a.kind a.bound) 14 (λ _. refl) (header a.kind a.bound n) (slots n) l.k
-          (slots_step n l.k l.p r.parties_least l.invariant.0 (omega arith)) (omega arith) bytes l.invariant.3,
+          (slots_step n l.k l.p r.parties_least l.invariant.0 (omega arith)) (omega arith) bytes l.invariant.1,
     )
 
 pub returns : goal.returns
@@ -34,5 +32,5 @@ returns c =
     let end : l.k ≡ row_count n = omega arith in
     let headed : Written a.out.now (header a.kind a.bound n) 8 c.put_header.new.o = record { size = refl; is = c.put_header.ensures } in
     turned (bytes_at a.kind a.bound) 14 (λ _. refl) (header a.kind a.bound n) (slots n) l.k (omega arith)
-    (since (omega arith) headed l.invariant.3)
+    (since (omega arith) headed l.invariant.1)
     ∙ ap (λ (j : ℕ). built_sheet a.kind a.bound n ++ drop (8 + 14 * j) a.out.now) end

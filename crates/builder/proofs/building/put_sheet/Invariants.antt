@@ -1,9 +1,7 @@
 -- The loop's invariant: the header and k rows stand written, p is the next row's, and past them all is as it was; a turn writes one row more.
-use Prim.Native.Nat.{ℕ, ◌+◌, ◌*◌, ◌-◌, ◌≤◌}
-use mathlib.Core.Path.{◌≡◌}
+use Prim.Native.Nat.{ℕ, ◌+◌, ◌*◌}
 use mathlib.Core.List.{List}
-use lib.ListN.{length}
-use Rattle.sheet.specs.Rows.{slots, row_count}
+use Rattle.sheet.specs.Rows.{slots}
 use Rattle.sheet.specs.declared.rows.Slot.{Slot}
 use Rattle.sheet.proofs.Parts.{Written}
 use Rattle.sheet.proofs.InTurn.{up_to}
@@ -20,9 +18,4 @@ module _ (kind bound : ℕ) where
 
 abbrev pub invariant-loop-k : goal.invariant-loop-k
 invariant-loop-k l = (AtRow l.k l.p)
-    × (l.k ≤ row_count l.parties)
-    × (length l.out ≡ length l.initial.out)
     × Written l.initial.out (up_to (bytes_at l.kind l.bound) (header l.kind l.bound l.parties) (slots l.parties) l.k) (8 + 14 * l.k) l.out
-
-abbrev pub decreases-loop-k : goal.decreases-loop-k
-decreases-loop-k l = l.count - l.k
