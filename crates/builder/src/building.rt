@@ -50,6 +50,7 @@ const TABLE: [Row; 5] = [
     },
 ];
 
+// 2^j, with the fact that the shift loses nothing.
 fn power(j: u16) -> u64
     requires { j < 64 }
     ensures { result ≡ 2 ^ j }
