@@ -106,7 +106,7 @@ pub(crate) struct Numbers {
 
 impl Numbers {
     // The numbers, where they are in range.
-    pub fn new(kind: u32, bound: u32, parties: u32) -> Option<Self>
+    pub(crate) fn new(kind: u32, bound: u32, parties: u32) -> Option<Self>
         ensures in_range { is_some result ≡ numbers_ok kind bound parties }
         ensures same { IfSome result (λ n. (kind_number n.kind ≡ kind) × (n.bound ≡ bound) × (n.parties ≡ parties)) }
     {
@@ -122,7 +122,7 @@ impl Numbers {
     }
 
     // Whether there is a sheet for them.
-    pub fn is_given(self) -> bool
+    pub(crate) fn is_given(self) -> bool
         ensures { result ≡ given (kind_number self.kind) self.bound self.parties }
     {
         match (self.kind, self.parties) {
@@ -157,7 +157,7 @@ impl Numbers {
     }
 
     // The length of the whole sheet.
-    pub fn sheet_length(self) -> usize
+    pub(crate) fn sheet_length(self) -> usize
         ensures { result ≡ sheet_length self.parties }
     {
         rows::sheet_length(self.parties)
@@ -178,7 +178,7 @@ impl Numbers {
     }
 
     // The whole sheet; the bytes past it stay.
-    pub fn put_sheet(self, out: &mut [u8])
+    pub(crate) fn put_sheet(self, out: &mut [u8])
         requires { (Given (kind_number self.kind) self.bound self.parties) × (sheet_length self.parties ≤ length out.old) }
         ensures { out.new ≡ built_sheet (kind_number self.kind) self.bound self.parties ++ drop (sheet_length self.parties) out.old }
     {
