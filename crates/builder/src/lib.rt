@@ -8,22 +8,20 @@ ghost use Rattle.answers.specs.Answers.{answer_of};
 ghost use Rattle.builder.specs.Build.{build_answer, out_after};
 
 use answers::Refusal;
-use sheet::rows;
+use building::Numbers;
 
 // Writes the sheet for these numbers; bytes past it keep their content, and a refusal changes nothing.
 pub fn build(kind: u32, bound: u32, parties: u32, out: &mut [u8]) -> Result<(), Refusal>
     ensures result_value { answer_of result ≡ build_answer kind bound parties (length out.old) }
     ensures out_after { out.new ≡ out_after kind bound parties out.old }
 {
-    if !rules::numbers_ok(kind, bound, parties) {
-        return Err(Refusal::Header);
-    }
-    if !building::is_given(kind, bound, parties) {
+    let numbers = Numbers::new(kind, bound, parties).ok_or(Refusal::Header)?;
+    if !numbers.is_given() {
         return Err(Refusal::NoSheet);
     }
-    if out.len() < rows::sheet_length(parties as u8) {
+    if out.len() < numbers.sheet_length() {
         return Err(Refusal::Output);
     }
-    building::put_sheet(out, kind, bound, parties);
+    numbers.put_sheet(out);
     Ok(())
 }

@@ -5,4 +5,5 @@ pub mod Sets
 pub mod Length
 pub mod Sizes
 pub mod Rows
+pub mod Kind
 pub mod Words

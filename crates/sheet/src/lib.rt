@@ -2,6 +2,7 @@
 #![tactic(auto)]
 
 pub mod bytes;
+pub mod kind;
 pub mod rows;
 pub mod sets;
 pub mod sizes;
