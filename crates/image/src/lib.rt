@@ -5,7 +5,6 @@ mod entries;
 mod parties;
 pub mod proposals;
 mod sizes;
-mod slices;
 
 ghost use Rattle.std.specs.Prelude.{◌≡◌, ◌++◌, cond, ◌&&◌, ◌≤◌, length, take, replicate, eqb, leb};
 ghost use Rattle.sheet.specs.Sizes.{most_parties, most_units, most_sheet};
@@ -14,7 +13,7 @@ ghost use Rattle.image.specs.Sizes.{session_length, marks_at, entries_at};
 ghost use Rattle.state.specs.Session.{no_party, filled, of_parts};
 ghost use Rattle.image.specs.Image.{parties_bytes, session_bytes, session_of};
 
-use crate::sizes::{ENTRIES_AT, MARKS_AT, PROPOSALS_AT, PUBLISHED_AT, SHARED_LENGTH};
+use crate::sizes::{ENTRIES_AT, MARKS_AT, PROPOSALS_AT, PUBLISHED_AT};
 use sheet::sizes::{MOST_PARTIES, MOST_SHEET, MOST_UNITS};
 pub use sizes::SESSION_LENGTH;
 use state::{CELLS, Party};
@@ -30,9 +29,9 @@ fn copy_parts(
     ensures marks_after { marks.new ≡ (session_of bytes.now).marks }
     ensures published_after { published.new ≡ (session_of bytes.now).published }
 {
-    slices::copy(bytes, MOST_SHEET, sheet, 0);
-    slices::copy(&bytes[MARKS_AT..], MOST_UNITS, marks, 0);
-    slices::copy(&bytes[PUBLISHED_AT..], CELLS, published, 0);
+    sheet.copy_from_slice(&bytes[..MOST_SHEET]);
+    marks.copy_from_slice(&bytes[MARKS_AT..PUBLISHED_AT]);
+    published.copy_from_slice(&bytes[PUBLISHED_AT..ENTRIES_AT]);
 }
 
 // The sheet, the marks and the published candidates that the bytes say.
@@ -84,8 +83,8 @@ fn put_acted(
     requires { length bytes.old ≡ session_length }
     ensures { bytes.new ≡ take marks_at bytes.old ++ marks.now ++ published.now ++ parties_bytes parties }
 {
-    slices::copy(marks, MOST_UNITS, bytes, MARKS_AT);
-    slices::copy(published, CELLS, bytes, PUBLISHED_AT);
+    bytes[MARKS_AT..PUBLISHED_AT].copy_from_slice(marks);
+    bytes[PUBLISHED_AT..ENTRIES_AT].copy_from_slice(published);
     entries::put_all(&mut bytes[ENTRIES_AT..], &parties);
 }
 
@@ -122,10 +121,10 @@ fn put_fresh(
     ensures { bytes.new ≡ session_bytes (of_parts (filled most_sheet sheet.now) proposals (replicate most_units 0) (replicate cells 0) parties) }
 {
     let n = sheet.len();
-    slices::copy(sheet, n, bytes, 0);
-    slices::put_zeros(bytes, n, MOST_SHEET - n);
+    bytes[..n].copy_from_slice(sheet);
+    bytes[n..MOST_SHEET].fill(0);
     entries::put_all(&mut bytes[PROPOSALS_AT..], &proposals);
-    slices::put_zeros(bytes, MARKS_AT, SHARED_LENGTH);
+    bytes[MARKS_AT..ENTRIES_AT].fill(0);
     entries::put_all(&mut bytes[ENTRIES_AT..], &parties);
 }
 

@@ -3,7 +3,7 @@ use Prim.Native.Nat.{ℕ}
 use mathlib.Core.Path.{◌≡◌, ap, ◌∙◌}
 use native.Mathlib.Omega.{arith}
 use borrow.Author.Rules.{rules}
-use lib.ListN.{length, replicate}
+use lib.ListN.{length, take, replicate}
 use lib.Seq.{length-take-le}
 use Rattle.image.specs.Image.{proposal_count, proposals_of}
 use Rattle.image.proofs.Filling.{filled_front}
@@ -17,4 +17,4 @@ returns-clause-numbers_value c =
     let many : count ≡ proposal_count (length s) = search rules in
     let few = counted (length s) in
     let some = length-take-le count (replicate 16 0) (omega (arith, few.most)) in
-    filled_front s count many c.read_all.new.entries (c.read_all.ensures ∙ ap (λ (n : ℕ). proposals_of n s) some)
+    filled_front s count many c.read_all.new.entries (c.read_all.ensures ∙ ap {x = length (take count (replicate 16 0))} (λ (n : ℕ). proposals_of n s) some)
