@@ -62,15 +62,7 @@ party_sized b h low =
     }
 
 party_below : (p : Party) → SizedParty p → Below 256 (party_image p)
-party_below p z =
-    let steps = bytes_of 2 p.steps in
-    let decision = bytes_of 4 p.decision in
-    let wide = below_append 256 steps decision (below_bytes 2 p.steps) (below_bytes 4 p.decision) in
-    let from4 = below_cons 256 p.candidate (steps ++ decision) z.candidate_fits wide in
-    let from3 = below_cons 256 p.k (p.candidate ∷ steps ++ decision) z.k_fits from4 in
-    let from2 = below_cons 256 p.round (p.k ∷ p.candidate ∷ steps ++ decision) z.round_fits from3 in
-    let from1 = below_cons 256 p.place (p.round ∷ p.k ∷ p.candidate ∷ steps ++ decision) z.place_fits from2 in
-    below_cons 256 p.status (p.place ∷ p.round ∷ p.k ∷ p.candidate ∷ steps ++ decision) z.status_fits from1
+party_below p z = search (below_cons, below_append, below_bytes) depth 9
 
 -- ---- the parts of a session
 
@@ -146,11 +138,7 @@ module _ (s : Session) (z : Sized s) where
   below_session =
       let proposals = below_flat 256 (bytes_of 4) s.proposals 0 (λ k h. below_bytes 4 (get_or s.proposals k 0)) in
       let parties = below_flat 256 party_image s.parties no_party (λ k h. party_below (get_or s.parties k no_party) (z.parties_fit k h)) in
-      let P = proposals_bytes s.proposals in
-      let to1962 = below_append 256 s.sheet P z.sheet_fits proposals in
-      let to2986 = below_append 256 (s.sheet ++ P) s.marks to1962 z.marks_fit in
-      let to3242 = below_append 256 (s.sheet ++ P ++ s.marks) s.published to2986 z.published_fits in
-      below_append 256 (s.sheet ++ P ++ s.marks ++ s.published) (parties_bytes s.parties) to3242 parties
+      search below_append depth 9
 
   pub decode_encode : session_of (session_bytes s) ≡ s
   decode_encode =
