@@ -2,22 +2,27 @@
 use Prim.Native.Nat.{ℕ, ◌-◌, ◌*◌}
 use mathlib.Core.Path.{◌≡◌, sym, ap, ◌∙◌}
 use mathlib.Core.List.{List, ◌++◌}
+use native.Mathlib.Omega.{arith}
 use lib.ListN.{length, take, drop, replicate}
-use lib.Seq.{take_at}
+use lib.Seq.{take_at, length-take-le}
 use Rattle.std.proofs.lemmas.List.{drop-replicate}
 use Rattle.sheet.specs.Bytes.{num}
 use Rattle.sheet.proofs.Ranges.{length_range}
 use Rattle.state.specs.Session.{filled}
 use Rattle.image.specs.Image.{proposal_count, proposals_of, proposals_in}
+use Rattle.image.proofs.Counts.{counted}
 
 size : (bytes : List ℕ) (count : ℕ) → count ≡ proposal_count (length bytes) → length (proposals_in bytes) ≡ count
 size bytes count many = length_range (λ j. num bytes (4 * j) 4) 0 (proposal_count (length bytes)) ∙ sym many
 
--- what is filled from the front with as many as the slice holds
+-- zeros of which as many as the slice holds are filled
 pub filled_front : (bytes : List ℕ) (count : ℕ) → count ≡ proposal_count (length bytes)
-    → (front : List ℕ) → front ≡ proposals_of count bytes → front ++ drop count (replicate 16 0) ≡ filled 16 (proposals_in bytes)
+    → (front : List ℕ) → front ≡ proposals_of (length (take count (replicate {A = ℕ} 16 0))) bytes
+    → front ++ drop count (replicate 16 0) ≡ filled 16 (proposals_in bytes)
 filled_front bytes count many front e =
-    rw (e, drop-replicate {X = ℕ} count 16 0) (λ i. proposals_of (many i) bytes ++ replicate (16 - sym (size bytes count many) i) 0)
+    let few = counted (length bytes) in
+    let some = length-take-le {A = ℕ} count (replicate 16 0) (omega (arith, few.most)) in
+    rw (e, drop-replicate {X = ℕ} count 16 0) (λ i. proposals_of ((some ∙ many) i) bytes ++ replicate (16 - sym (size bytes count many) i) 0)
 
 -- and its front, as long, is what is lent of it
 pub lent : (bytes : List ℕ) {numbers slice : List ℕ} {count : ℕ} → count ≡ proposal_count (length bytes) → numbers ≡ filled 16 (proposals_in bytes)

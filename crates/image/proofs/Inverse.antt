@@ -1,20 +1,20 @@
 -- `session_bytes` and `session_of` are inverse to each other: each part is read from where it was written, and what is read of a part is the part again.
 use Prim.Native.Nat.{ℕ, ◌+◌, ◌*◌, ◌^◌, ◌≤◌, ◌<◌}
 use mathlib.Core.Path.{◌≡◌, refl, sym, ap, subst⁻¹, ◌∙◌}
-use mathlib.Core.List.{List, [], ◌∷◌, ◌++◌, map, append_assoc, append-nil}
+use mathlib.Core.List.{List, [], ◌∷◌, ◌++◌, append_assoc, append-nil}
 use native.Mathlib.Omega.{arith}
 use lib.ListN.{length, get_or, take, drop, length-append, length-drop}
 use lib.Seq.{take_at, take-add, take_all, drop_at, drop-cons, drop-drop, length-take-le}
-use Rattle.sheet.specs.Lists.{from}
 use Rattle.sheet.specs.Bytes.{num, bytes_of}
 use Rattle.sheet.proofs.Numbers.{num_bytes, num_below}
 use Rattle.sheet.proofs.Flat.{length_flat}
+use Rattle.sheet.proofs.Ranges.{range_at}
 use Rattle.state.specs.Session.{no_party, of_parts}
 use Rattle.state.specs.declared.kept.Party.{Party}
 use Rattle.state.specs.declared.kept.Session.{Session}
-use Rattle.state.proofs.Copies.{range_at}
 use Rattle.image.specs.Image.{party_image, proposals_bytes, parties_bytes, session_bytes}
 use Rattle.image.specs.Image.{party_from, proposals_of, parties_from, session_of, Below, SizedParty, Sized}
+use Rattle.image.specs.Entries.{entries_of}
 use Rattle.image.proofs.Bytes.{below_drop, below_take, below_cons, below_append, below_flat, below_bytes, bytes_num}
 use Rattle.image.proofs.Cuts.{cut_joined, joined_cuts}
 
@@ -62,15 +62,7 @@ party_sized b h low =
     }
 
 party_below : (p : Party) → SizedParty p → Below 256 (party_image p)
-party_below p z =
-    let steps = bytes_of 2 p.steps in
-    let decision = bytes_of 4 p.decision in
-    let wide = below_append 256 steps decision (below_bytes 2 p.steps) (below_bytes 4 p.decision) in
-    let from4 = below_cons 256 p.candidate (steps ++ decision) z.candidate_fits wide in
-    let from3 = below_cons 256 p.k (p.candidate ∷ steps ++ decision) z.k_fits from4 in
-    let from2 = below_cons 256 p.round (p.k ∷ p.candidate ∷ steps ++ decision) z.round_fits from3 in
-    let from1 = below_cons 256 p.place (p.round ∷ p.k ∷ p.candidate ∷ steps ++ decision) z.place_fits from2 in
-    below_cons 256 p.status (p.place ∷ p.round ∷ p.k ∷ p.candidate ∷ steps ++ decision) z.status_fits from1
+party_below p z = search (below_cons, below_append, below_bytes) depth 9
 
 -- ---- the parts of a session
 
@@ -83,15 +75,15 @@ length_parties ps l = length_flat party_image 11 (λ p. refl) ps ∙ ap (λ (k :
 proposals_back : (xs rest b : List ℕ) → length xs ≡ 16 → Below (2 ^ 32) xs → b ≡ proposals_bytes xs ++ rest → proposals_of 16 b ≡ xs
 proposals_back xs rest b l low e =
     let read : List ℕ → ℕ = λ c. num c 0 4 in
-    ap (λ (c : List ℕ). map (λ j. read (drop (4 * j) c)) (from 0 16)) e
-    ∙ ap (λ (n : ℕ). map (λ j. read (drop (4 * j) (proposals_bytes xs ++ rest))) (from 0 n)) (sym l)
+    ap (proposals_of 16) e
+    ∙ ap (λ (n : ℕ). entries_of read 4 n (proposals_bytes xs ++ rest)) (sym l)
     ∙ cut_joined (bytes_of 4) read 4 (λ x. refl) xs 0 (λ k h r. num_bytes 4 (get_or xs k 0) (low k h)) rest
 
 parties_back : (ps : List Party) (rest b : List ℕ) → length ps ≡ 16 → ((k : ℕ) → k < length ps → SizedParty (get_or ps k no_party))
     → b ≡ parties_bytes ps ++ rest → parties_from b ≡ ps
 parties_back ps rest b l low e =
     ap parties_from e
-    ∙ ap (λ (n : ℕ). map (λ j. party_from (drop (11 * j) (parties_bytes ps ++ rest))) (from 0 n)) (sym l)
+    ∙ ap (λ (n : ℕ). entries_of party_from 11 n (parties_bytes ps ++ rest)) (sym l)
     ∙ cut_joined party_image party_from 11 (λ p. refl) ps no_party (λ k h. party_back (get_or ps k no_party) (low k h)) rest
 
 proposals_again : (b : List ℕ) → 64 ≤ length b → Below 256 b → proposals_bytes (proposals_of 16 b) ≡ take 64 b
@@ -146,11 +138,7 @@ module _ (s : Session) (z : Sized s) where
   below_session =
       let proposals = below_flat 256 (bytes_of 4) s.proposals 0 (λ k h. below_bytes 4 (get_or s.proposals k 0)) in
       let parties = below_flat 256 party_image s.parties no_party (λ k h. party_below (get_or s.parties k no_party) (z.parties_fit k h)) in
-      let P = proposals_bytes s.proposals in
-      let to1962 = below_append 256 s.sheet P z.sheet_fits proposals in
-      let to2986 = below_append 256 (s.sheet ++ P) s.marks to1962 z.marks_fit in
-      let to3242 = below_append 256 (s.sheet ++ P ++ s.marks) s.published to2986 z.published_fits in
-      below_append 256 (s.sheet ++ P ++ s.marks ++ s.published) (parties_bytes s.parties) to3242 parties
+      search below_append depth 9
 
   pub decode_encode : session_of (session_bytes s) ≡ s
   decode_encode =

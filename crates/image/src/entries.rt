@@ -32,8 +32,8 @@ pub(crate) fn read_all<T: Entry>(s: &[u8], entries: &mut [T])
     requires { T.LENGTH * length entries.old ≤ length s.now }
     ensures { entries.new ≡ entries_of T.of_bytes T.LENGTH (length entries.old) s.now }
 {
-    for j in 0..entries.len() {
-        entries[j] = T::read(&s[T::LENGTH * j..]);
+    for (j, entry) in entries.iter_mut().enumerate() {
+        *entry = T::read(&s[T::LENGTH * j..]);
     }
 }
 

@@ -5,7 +5,6 @@ mod entries;
 mod parties;
 pub mod proposals;
 mod sizes;
-mod slices;
 
 ghost use Rattle.std.specs.Prelude.{◌≡◌, ◌++◌, cond, ◌&&◌, ◌≤◌, length, take, replicate, eqb, leb};
 ghost use Rattle.sheet.specs.Sizes.{most_parties, most_units, most_sheet};
@@ -14,7 +13,7 @@ ghost use Rattle.image.specs.Sizes.{session_length, marks_at, entries_at};
 ghost use Rattle.state.specs.Session.{filled, of_parts};
 ghost use Rattle.image.specs.Image.{parties_bytes, session_bytes, session_of};
 
-use crate::sizes::{ENTRIES_AT, MARKS_AT, PROPOSALS_AT, PUBLISHED_AT, SHARED_LENGTH};
+use crate::sizes::{ENTRIES_AT, MARKS_AT, PROPOSALS_AT, PUBLISHED_AT};
 use sheet::sizes::{MOST_PARTIES, MOST_SHEET};
 pub use sizes::SESSION_LENGTH;
 use state::{Party, Session};
@@ -77,10 +76,10 @@ fn put_fresh(
     ensures { bytes.new ≡ session_bytes (of_parts (filled most_sheet sheet.now) proposals (replicate most_units 0) (replicate cells 0) parties) }
 {
     let n = sheet.len();
-    slices::copy(sheet, n, bytes, 0);
-    slices::put_zeros(bytes, n, MOST_SHEET - n);
+    bytes[..n].copy_from_slice(sheet);
+    bytes[n..MOST_SHEET].fill(0);
     entries::put_all(&mut bytes[PROPOSALS_AT..], &proposals);
-    slices::put_zeros(bytes, MARKS_AT, SHARED_LENGTH);
+    bytes[MARKS_AT..ENTRIES_AT].fill(0);
     entries::put_all(&mut bytes[ENTRIES_AT..], &parties);
 }
 

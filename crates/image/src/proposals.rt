@@ -58,6 +58,7 @@ fn proposals_count(len: usize) -> Option<usize>
 }
 
 // The proposals of a slice: as many as it holds, or none where it is of no sheet's length.
+#[tactic(auto, using(crate::proofs::Filling::filled_front))]
 pub fn proposals_from(s: &[u8]) -> Proposals
     ensures count_value { result.count ≡ proposal_count (length s.now) }
     ensures numbers_value { result.numbers ≡ filled most_parties (proposals_in s.now) }

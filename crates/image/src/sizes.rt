@@ -6,9 +6,6 @@ pub(crate) const PROPOSAL_LENGTH: usize = 4;
 
 pub(crate) const PROPOSALS_LENGTH: usize = MOST_PARTIES * PROPOSAL_LENGTH;
 
-// Marks and published candidates together.
-pub(crate) const SHARED_LENGTH: usize = MOST_UNITS + CELLS;
-
 // A party's entries.
 pub(crate) const ENTRY_LENGTH: usize = 11;
 

@@ -17,4 +17,4 @@ returns g c =
     let n = length c.args.entries.now in
     let read = λ (j : ℕ). t.of_bytes (drop (t.LENGTH * j) c.args.s.now) in
     let size = length_range read 0 n in
-    same_lists l.entries (map read (from 0 n)) (omega arith) (λ k d h. l.invariant.1 k d (omega arith) ∙ sym (range_at read 0 n k d (omega arith) ∙ ap read (zero-add k)))
+    same_lists l.entries (map read (from 0 n)) (omega arith) (λ k d h. l.invariant k d (omega arith) ∙ sym (range_at read 0 n k d (omega arith) ∙ ap read (zero-add k)))
