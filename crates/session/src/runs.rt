@@ -1,5 +1,5 @@
 // The run of a whole schedule.
-ghost use Rattle.std.specs.Prelude.{◌≡◌, ◌≤◌, length, T};
+ghost use Rattle.std.specs.Prelude.{◌≡◌, ◌+◌, ◌≤◌, length, T, MatchOption};
 ghost use Rattle.sheet.specs.Sizes.{most_parties};
 ghost use Rattle.sheet.specs.Rows.{parties_of};
 ghost use Rattle.sheet.specs.Lists.{all, first_bad};
@@ -26,30 +26,18 @@ fn schedule_ok(schedule: &[u8], n: u8) -> bool
     requires { n ≤ most_parties }
     ensures { result ≡ all (byte_ok n) schedule.now }
 {
-    let mut ok = true;
-    let mut j = 0;
-    while j < schedule.len() {
-        if !byte_ok(n, schedule[j]) {
-            ok = false;
-        }
-        j += 1;
-    }
-    ok
+    schedule.iter().fold(true, |ok, b| ok & byte_ok(n, *b))
 }
 
-// The first bad byte, counted from 1, or 0.
-fn first_bad_byte(schedule: &[u8], n: u8) -> usize
+// The first bad byte, counted from 0: it is looked for only where there is one.
+fn first_bad_byte(schedule: &[u8], n: u8) -> Option<usize>
     requires { n ≤ most_parties }
-    ensures { result ≡ first_bad (byte_ok n) 1 schedule.now }
+    ensures { MatchOption result (first_bad (byte_ok n) 1 schedule.now ≡ 0) (λ k. first_bad (byte_ok n) 1 schedule.now ≡ k + 1) }
 {
-    let mut j = 0;
-    while j < schedule.len() {
-        if !byte_ok(n, schedule[j]) {
-            return j + 1;
-        }
-        j += 1;
+    if schedule_ok(schedule, n) {
+        return None;
     }
-    0
+    schedule.iter().position(|b| !byte_ok(n, *b))
 }
 
 // Obeys a schedule of good bytes on an accepted sheet, from a fresh session: the parties at the end.
@@ -61,27 +49,16 @@ fn obey(sheet: &[u8], proposals: &[u32], schedule: &[u8], n: u8) -> [Party; MOST
     let mut parties = opening::fresh_parties(n);
     let mut marks = [0u8; MOST_UNITS];
     let mut published = [0u8; CELLS];
-    let mut j = 0;
-    while j < schedule.len() {
-        let b = schedule[j];
+    for &b in schedule {
         let i = b % 128;
         let at = i as usize - 1;
         let p = parties[at];
         if p.status < Status::DECIDED {
-            match b {
-                0..=127 => parties[at] = act::act(
-                    sheet,
-                    &kept,
-                    &mut marks,
-                    &mut published,
-                    p,
-                    i,
-                    n,
-                ),
-                _ => parties[at] = parts::stop_party(p),
-            }
+            parties[at] = match b {
+                0..=127 => act::act(sheet, &kept, &mut marks, &mut published, p, i, n),
+                _ => parts::stop_party(p),
+            };
         }
-        j += 1;
     }
     parties
 }
@@ -96,8 +73,8 @@ pub fn run(sheet: &[u8], proposals: &[u32], schedule: &[u8], out: &mut [u8]) -> 
         return verdict;
     }
     let n = sheet[PARTIES_AT];
-    if !schedule_ok(schedule, n) {
-        return Verdict::Refused(Refusal::Schedule(first_bad_byte(schedule, n) - 1));
+    if let Some(at) = first_bad_byte(schedule, n) {
+        return Verdict::Refused(Refusal::Schedule(at));
     }
     if out.len() < record::HEAD_LENGTH + record::PARTY_LENGTH * (n as usize) {
         return Verdict::Refused(Refusal::Output);
