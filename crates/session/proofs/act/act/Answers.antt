@@ -1,12 +1,11 @@
 -- At each place the act is the one that the definition names, and what it asks follows from the party's rule; a live party is at no other place.
 use Prim.Native.Nat.{ℕ, ◌≤◌, ◌<◌}
 use mathlib.Core.List.{List}
-use mathlib.Core.Path.{◌≡◌, refl, ap}
+use mathlib.Core.Path.{◌≡◌}
 use mathlib.Core.Logic.{◌⊎◌, inl, inr, ⊎_elim}
 use native.Mathlib.Omega.{arith}
 use Rattle.sheet.proofs.Folds.{lt_or_le}
 use Rattle.state.specs.declared.kept.Party.{Party}
-use Rattle.steps.specs.Step.{place_of, seen, party_after, marks_after, published_after}
 use Rattle.steps.specs.Ready.{Ready, ReadyAt}
 use Rattle.session.proofs.act.act.Goals as goal
 

@@ -1,10 +1,10 @@
 -- All bytes are good, or the first that fails is the one looked for.
-use Rattle.std.proofs.Common.{rules, tests, ◌≡◌, ℕ, suc, ◌+◌, Bool, true, false, not, cond, Option, Some, None, MatchOption, List, [], ◌∷◌, refl, sym, ◌∙◌, subst, add-one}
+use Rattle.std.proofs.Common.{rules, tests, ◌≡◌, ℕ, suc, ◌+◌, Bool, true, false, not, cond, Option, Some, MatchOption, List, [], ◌∷◌, refl, sym, ◌∙◌, subst, add-one}
 use Rattle.std.proofs.lemmas.Iterator.{YieldsList-from_slice}
 use Rattle.std.proofs.lemmas.Iterator.Search.{position_from_yields_List}
 use Rattle.std.proofs.lemmas.Iterator.Adapters.{position_from-zero}
 use Rattle.std.specs.List.{position_from}
-use Rattle.sheet.specs.Lists.{all, first_bad}
+use Rattle.sheet.specs.Lists.{first_bad}
 use Rattle.steps.specs.Run.{byte_ok}
 use Rattle.sheet.proofs.Folds.{held}
 use Rattle.sheet.proofs.FirstBad.{first_none}

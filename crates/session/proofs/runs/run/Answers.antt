@@ -1,18 +1,15 @@
 -- Each refusal is that of the first test that fails, and then the output is untouched; past the tests the schedule is obeyed and the record written.
-use Prim.Native.Nat.{ℕ, ◌+◌, ◌-◌, ◌<◌, ◌^◌}
-use mathlib.Core.Bool.{Bool, false}
+use Prim.Native.Nat.{◌+◌, ◌-◌}
 use mathlib.Core.Path.{◌≡◌, refl, sym, ap, ◌∙◌}
 use mathlib.Core.List.{List, ◌++◌}
-use mathlib.Core.Logic.{◌≢◌}
 use native.Mathlib.Omega.{arith}
-use lib.ListN.{length, drop}
+use lib.ListN.{drop}
 use Rattle.sheet.specs.Rows.{parties_of}
 use Rattle.answers.specs.Answers.{answer, done, answer_of}
-use Rattle.sheet.specs.Lists.{all, first_bad}
+use Rattle.sheet.specs.Lists.{first_bad}
 use Rattle.answers.specs.declared.Refusal.TheVariants.{Schedule, Output}
 use Rattle.answers.specs.declared.Verdict.TheVariants.{Refused}
-use Rattle.sheet.proofs.Folds.{held, failed}
-use Rattle.sheet.proofs.FirstBad.{first_none, none_first}
+use Rattle.sheet.proofs.FirstBad.{none_first}
 use Rattle.state.specs.Opening.{open_answer}
 use Rattle.state.specs.declared.kept.Party.{Party}
 use Rattle.state.proofs.Openings.{opens_says}
