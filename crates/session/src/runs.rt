@@ -26,7 +26,7 @@ fn schedule_ok(schedule: &[u8], n: u8) -> bool
     requires { n ≤ most_parties }
     ensures { result ≡ all (byte_ok n) schedule.now }
 {
-    schedule.iter().fold(true, |ok, b| ok & byte_ok(n, *b))
+    !schedule.iter().fold(false, |bad, b| bad | !byte_ok(n, *b))
 }
 
 // The first bad byte, counted from 0: it is looked for only where there is one.
