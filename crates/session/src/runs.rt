@@ -17,8 +17,7 @@ fn byte_ok(n: u8, b: u8) -> bool
     requires { n ≤ most_parties }
     ensures { result ≡ byte_ok n b }
 {
-    let i = b % 128;
-    1 <= i && i <= n
+    (1..=n).contains(&(b % 128))
 }
 
 // Whether every byte is good: one pass with no early exit.
