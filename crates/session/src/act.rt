@@ -217,6 +217,7 @@ impl Actor {
 }
 
 // The act of party i, which is p and live, by its place.
+// The lent memory stays four parameters: each act takes the part that it reads or writes, and only this function takes all.
 #[tactic(auto, unfolding(steps::specs::Step::seen, steps::specs::Step::party_after, steps::specs::Step::marks_after, steps::specs::Step::published_after))]
 pub(crate) fn act(
     sheet: &[u8],

@@ -20,23 +20,16 @@ fn byte_ok(n: u8, b: u8) -> bool
     (1..=n).contains(&(b % 128))
 }
 
-// Whether every byte is good: one pass with no early exit.
-fn schedule_ok(schedule: &[u8], n: u8) -> bool
-    requires { n ≤ most_parties }
-    ensures { result ≡ all (byte_ok n) schedule.now }
-{
-    !schedule.iter().fold(false, |bad, b| bad | !byte_ok(n, *b))
-}
-
-// The first bad byte, counted from 0: it is looked for only where there is one.
+// The first bad byte, counted from 0: one pass with no early exit tells whether there is one, and only then is it looked for.
 fn first_bad_byte(schedule: &[u8], n: u8) -> Option<usize>
     requires { n ≤ most_parties }
     ensures { MatchOption result (first_bad (byte_ok n) 1 schedule.now ≡ 0) (λ k. first_bad (byte_ok n) 1 schedule.now ≡ k + 1) }
 {
-    if schedule_ok(schedule, n) {
-        return None;
+    if schedule.iter().fold(false, |bad, b| bad | !byte_ok(n, *b)) {
+        schedule.iter().position(|b| !byte_ok(n, *b))
+    } else {
+        None
     }
-    schedule.iter().position(|b| !byte_ok(n, *b))
 }
 
 // Obeys a schedule of good bytes on an accepted sheet, from a fresh session: the parties at the end.
