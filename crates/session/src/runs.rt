@@ -1,5 +1,5 @@
 // The run of a whole schedule.
-ghost use Rattle.std.specs.Prelude.{◌≡◌, ◌≤◌, length, T};
+ghost use Rattle.std.specs.Prelude.{◌≡◌, ◌+◌, ◌≤◌, length, T, MatchOption};
 ghost use Rattle.sheet.specs.Sizes.{most_parties};
 ghost use Rattle.sheet.specs.Rows.{parties_of};
 ghost use Rattle.sheet.specs.Lists.{all, first_bad};
@@ -17,39 +17,19 @@ fn byte_ok(n: u8, b: u8) -> bool
     requires { n ≤ most_parties }
     ensures { result ≡ byte_ok n b }
 {
-    let i = b % 128;
-    1 <= i && i <= n
+    (1..=n).contains(&(b % 128))
 }
 
-// Whether every byte is good: one pass with no early exit.
-fn schedule_ok(schedule: &[u8], n: u8) -> bool
+// The first bad byte, counted from 0: one pass with no early exit tells whether there is one, and only then is it looked for.
+fn first_bad_byte(schedule: &[u8], n: u8) -> Option<usize>
     requires { n ≤ most_parties }
-    ensures { result ≡ all (byte_ok n) schedule.now }
+    ensures { MatchOption result (first_bad (byte_ok n) 1 schedule.now ≡ 0) (λ k. first_bad (byte_ok n) 1 schedule.now ≡ k + 1) }
 {
-    let mut ok = true;
-    let mut j = 0;
-    while j < schedule.len() {
-        if !byte_ok(n, schedule[j]) {
-            ok = false;
-        }
-        j += 1;
+    if schedule.iter().fold(false, |bad, b| bad | !byte_ok(n, *b)) {
+        schedule.iter().position(|b| !byte_ok(n, *b))
+    } else {
+        None
     }
-    ok
-}
-
-// The first bad byte, counted from 1, or 0.
-fn first_bad_byte(schedule: &[u8], n: u8) -> usize
-    requires { n ≤ most_parties }
-    ensures { result ≡ first_bad (byte_ok n) 1 schedule.now }
-{
-    let mut j = 0;
-    while j < schedule.len() {
-        if !byte_ok(n, schedule[j]) {
-            return j + 1;
-        }
-        j += 1;
-    }
-    0
 }
 
 // Obeys a schedule of good bytes on an accepted sheet, from a fresh session: the parties at the end.
@@ -61,27 +41,16 @@ fn obey(sheet: &[u8], proposals: &[u32], schedule: &[u8], n: u8) -> [Party; MOST
     let mut parties = opening::fresh_parties(n);
     let mut marks = [0u8; MOST_UNITS];
     let mut published = [0u8; CELLS];
-    let mut j = 0;
-    while j < schedule.len() {
-        let b = schedule[j];
+    for &b in schedule {
         let i = b % 128;
         let at = i as usize - 1;
         let p = parties[at];
         if p.status < Status::DECIDED {
-            match b {
-                0..=127 => parties[at] = act::act(
-                    sheet,
-                    &kept,
-                    &mut marks,
-                    &mut published,
-                    p,
-                    i,
-                    n,
-                ),
-                _ => parties[at] = stepping::stop_party(p),
-            }
+            parties[at] = match b {
+                0..=127 => act::act(sheet, &kept, &mut marks, &mut published, p, i, n),
+                _ => stepping::stop_party(p),
+            };
         }
-        j += 1;
     }
     parties
 }
@@ -93,8 +62,8 @@ pub fn run(sheet: &[u8], proposals: &[u32], schedule: &[u8], out: &mut [u8]) -> 
 {
     opening::opens(sheet, proposals)?;
     let n = sheet[PARTIES_AT];
-    if !schedule_ok(schedule, n) {
-        return Err(Refusal::Schedule(first_bad_byte(schedule, n) - 1));
+    if let Some(at) = first_bad_byte(schedule, n) {
+        return Err(Refusal::Schedule(at));
     }
     if out.len() < record::HEAD_LENGTH + record::PARTY_LENGTH * (n as usize) {
         return Err(Refusal::Output);

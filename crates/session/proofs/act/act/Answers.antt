@@ -1,10 +1,11 @@
 -- At each place the act is the one that the definition names, and what it asks follows from the party's rule; a live party is at no other place.
-use Prim.Native.Nat.{ℕ, ◌≤◌}
+use Prim.Native.Nat.{ℕ, ◌≤◌, ◌<◌}
 use mathlib.Core.List.{List}
-use mathlib.Core.Path.{refl, ap}
+use mathlib.Core.Path.{◌≡◌}
+use mathlib.Core.Logic.{◌⊎◌, inl, inr, ⊎_elim}
 use native.Mathlib.Omega.{arith}
+use Rattle.sheet.proofs.Folds.{lt_or_le}
 use Rattle.state.specs.declared.kept.Party.{Party}
-use Rattle.steps.specs.Step.{place_of, seen, party_after, marks_after, published_after}
 use Rattle.steps.specs.Ready.{Ready, ReadyAt}
 use Rattle.session.proofs.act.act.Goals as goal
 
@@ -21,50 +22,46 @@ module _ {s published : List ℕ} {i n : ℕ} {p : Party} (ready : Ready s publi
         steps = ready.party.steps;
       }
 
+  few : n ≤ 16
+  few = let most = ready.rules.before.before.header.parties_most in let size = ready.parties in omega arith
+
+  -- where the round and k are not in use they are 0
+  round_most : p.round ≤ n
+  round_most =
+      ⊎_elim
+      (λ low. ⊎_elim (λ high. ready.party.round_most (omega arith) (omega arith)) (λ past. none (inr past)) (lt_or_le p.place 7))
+      (λ start. none (inl (omega arith)))
+      (lt_or_le 0 p.place)
+    where
+      none : (p.place ≡ 0) ⊎ (7 ≤ p.place) → p.round ≤ n
+      none at = let e = ready.party.round_none at in omega arith
+
+  scan_most : p.k ≤ n
+  scan_most =
+      ⊎_elim (λ low. none (inl low))
+      (λ scan.
+      ⊎_elim (λ high. let below = ready.party.scan_most scan (omega arith) in let most = round_most in omega arith) (λ past. none (inr past))
+      (lt_or_le p.place 7))
+      (lt_or_le p.place 4)
+    where
+      none : (p.place < 4) ⊎ (7 ≤ p.place) → p.k ≤ n
+      none at = let e = ready.party.scan_none at in omega arith
+
   own_row : 1 ≤ p.place → p.place ≤ 6 → ReadyAt s i p
   own_row a b = ready_at a b i ready.least (ready.party.round_own a b)
 
   scan_row : 4 ≤ p.place → p.place ≤ 6 → ReadyAt s p.k p
   scan_row a b = let below = ready.party.scan_most a b in ready_at (omega arith) b p.k (ready.party.scan_least a b) (omega arith)
 
-pub returns-in-0 : goal.returns-in-0
-unfolding seen party_after marks_after published_after
-returns-in-0 c =
-    let size = c.requires.parties in
-    rw (ap place_of c.in-0.is, ← size) (c.announce.ensures, (refl, refl))
-
-pub returns-in-1 : goal.returns-in-1
-unfolding seen party_after marks_after published_after
-returns-in-1 c = rw (ap place_of c.in-1.is) (c.publish.ensures.0, (refl, c.publish.ensures.1))
-
-pub returns-in-2 : goal.returns-in-2
-unfolding seen party_after marks_after published_after
-returns-in-2 c = rw (ap place_of c.in-2.is) (c.write.ensures.0, (c.write.ensures.1, refl))
-
-pub returns-in-3 : goal.returns-in-3
-unfolding seen party_after marks_after published_after
-returns-in-3 c =
-    let size = c.requires.parties in
-    rw (ap place_of c.in-3.is, ← size) (c.read_top.ensures, (refl, refl))
-
-pub returns-in-4 : goal.returns-in-4
-unfolding seen party_after marks_after published_after
-returns-in-4 c =
-    let size = c.requires.parties in
-    rw (ap place_of c.in-4.is, ← size) (c.read_own.ensures, (refl, refl))
-
-pub returns-in-5 : goal.returns-in-5
-unfolding seen party_after marks_after published_after
-returns-in-5 c =
-    let size = c.requires.parties in
-    rw (ap place_of c.in-5.is, ← size) (c.read_pair.ensures, (refl, refl))
-
-pub returns-in-6 : goal.returns-in-6
-unfolding seen party_after marks_after published_after
-returns-in-6 c =
-    let size = c.requires.parties in
-    rw (ap place_of c.in-6.is, ← size) (c.fetch.ensures, (refl, refl))
-
-pub returns-in-7 : goal.returns-in-7
-unfolding seen party_after marks_after published_after
-returns-in-7 c = rw (ap place_of c.in-7.is) (c.decide.ensures, (refl, refl))
+pub invariant_of-actor : goal.invariant_of-actor
+invariant_of-actor c =
+    let r = c.requires in
+    record {
+      few = few r;
+      number_most = r.most;
+      round_most = round_most r;
+      scan_most = scan_most r;
+      candidate_least = r.party.candidate_least;
+      candidate_most = r.party.candidate_most;
+      steps_most = r.party.steps;
+    }

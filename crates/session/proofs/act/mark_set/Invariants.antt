@@ -1,5 +1,5 @@
 -- At j the set's units below start + j are stamped; each turn is one unit more, and from bit 64 on the mask has none.
-use Prim.Native.Nat.{ℕ, ◌+◌, ◌-◌, ◌^◌, ◌≤◌, ◌<◌}
+use Prim.Native.Nat.{ℕ, ◌+◌, ◌-◌, ◌^◌, ◌<◌}
 use mathlib.Core.Path.{◌≡◌, subst}
 use mathlib.Core.Bool.{Bool, false, ◌&&◌}
 use mathlib.Core.Logic.{◌≢◌}
@@ -50,7 +50,4 @@ module _ (start mask : ℕ) where
       (λ t. let at = (at_says start mask u).0 t in let j = bit_under mask 64 (u - start) h at.1 in both 64 u t (omega arith))
 
 abbrev pub invariant-loop-j : goal.invariant-loop-j
-invariant-loop-j l = (l.j ≤ 64) × (l.marks ≡ stamped (passed l.start l.mask l.j) l.mark 0 l.initial.marks)
-
-abbrev pub decreases-loop-j : goal.decreases-loop-j
-decreases-loop-j l = 64 - l.j
+invariant-loop-j l = l.marks ≡ stamped (passed l.start l.mask l.j) l.mark 0 l.initial.marks

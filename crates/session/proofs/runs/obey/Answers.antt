@@ -1,12 +1,12 @@
--- The loop's invariant: parties, marks and published candidates are those of the session that the first j bytes lead to.
+-- The loop's invariant: parties, marks and published candidates are those of the session that the first bytes lead to.
 use Rattle.std.proofs.Common.{◌∙◌, arith}
 use Rattle.state.proofs.Filled.{filled_taken, fresh_taken}
 use Rattle.session.proofs.ObeyLoop.{going_first, going_ready, going_act, going_stop, going_over}
 use Rattle.session.proofs.runs.obey.Goals as goal
-use Rattle.session.proofs.runs.obey.Goals.{then-p-lt-DECIDED+in-0-to-127, then-p-lt-DECIDED+in_default, else-p-lt-DECIDED}
+use Rattle.session.proofs.runs.obey.Goals.{then-p-lt-DECIDED, in-0-to-127, in_default, else-p-lt-DECIDED}
 
-pub loop-j-init : goal.loop-j-init
-loop-j-init c =
+pub loop-b-init : goal.loop-b-init
+loop-b-init c =
     let r = c.requires in
     let few = r.0.before.before.before.header.parties_most in
     let size = r.1 in
@@ -15,17 +15,20 @@ loop-j-init c =
     (c.fresh_parties-parties.ensures ∙ fresh_taken c.args.n (omega arith))
 
 pub act-requires : goal.act-requires
-act-requires c = going_ready c.loop-j.invariant c.loop-j-test.true (omega arith)
+act-requires c = going_ready c.loop-b.invariant c.loop-b-test.true (omega arith)
 
-pub loop-j-preserved : goal.loop-j-preserved
-loop-j-preserved c =
-    let l = c.loop-j in
-    let more = c.loop-j-test.true in
+pub loop-b-preserved : goal.loop-b-preserved
+loop-b-preserved c =
+    let l = c.loop-b in
+    let more = c.loop-b-test.true in
     elim c.if-p-lt-DECIDED.branch [
-      | then-p-lt-DECIDED+in-0-to-127 w ↦
-          going_act l.invariant more _ _ _ (omega arith) (omega arith) w.act.result w.parties-is
-          w.act.ensures.0 (w.marks-is ∙ w.act.ensures.1.0) (w.published-is ∙ w.act.ensures.1.1)
-      | then-p-lt-DECIDED+in_default w ↦
-          going_stop l.invariant more _ _ _ (omega arith) w.stop_party.result w.parties-is w.stop_party.ensures w.marks-is w.published-is
+      | then-p-lt-DECIDED w ↦
+          elim w.if-b-lt128.branch [
+            | in-0-to-127 v ↦
+                going_act l.invariant more _ _ _ (omega arith) (omega arith) _ w.parties-is
+                (v.parties-is ∙ v.act.ensures.0) (w.marks-is ∙ v.marks-is ∙ v.act.ensures.1.0) (w.published-is ∙ v.published-is ∙ v.act.ensures.1.1)
+            | in_default v ↦
+                going_stop l.invariant more _ _ _ (omega arith) _ w.parties-is (v.parties-is ∙ v.stop_party.ensures) (w.marks-is ∙ v.marks-is) (w.published-is ∙ v.published-is)
+          ]
       | else-p-lt-DECIDED w ↦ going_over l.invariant more _ _ _ (omega arith) w.parties-is w.marks-is w.published-is
     ]

@@ -1,18 +1,15 @@
 -- Each refusal is that of the first test that fails, and then the output is untouched; past the tests the schedule is obeyed and the record written.
 use Rattle.std.specs.Prelude.{Err}
-use Prim.Native.Nat.{ℕ, ◌-◌, ◌<◌, ◌^◌}
-use mathlib.Core.Bool.{Bool, false}
+use Prim.Native.Nat.{◌+◌, ◌-◌}
 use mathlib.Core.Path.{◌≡◌, refl, sym, ap, ◌∙◌}
 use mathlib.Core.List.{List, ◌++◌}
-use mathlib.Core.Logic.{◌≢◌}
 use native.Mathlib.Omega.{arith}
-use lib.ListN.{length, drop}
+use lib.ListN.{drop}
 use Rattle.sheet.specs.Rows.{parties_of}
 use Rattle.answers.specs.Answers.{answer, done}
-use Rattle.sheet.specs.Lists.{all, first_bad}
+use Rattle.sheet.specs.Lists.{first_bad}
 use Rattle.answers.specs.declared.Refusal.TheVariants.{Schedule, Output}
-use Rattle.sheet.proofs.Folds.{held, failed}
-use Rattle.sheet.proofs.FirstBad.{first_none, none_first}
+use Rattle.sheet.proofs.FirstBad.{none_first}
 use Rattle.state.specs.Opening.{open_answer}
 use Rattle.state.specs.declared.kept.Party.{Party}
 use Rattle.state.proofs.Openings.{opens_says}
@@ -22,29 +19,17 @@ use Rattle.steps.specs.Run.{byte_ok}
 use Rattle.steps.proofs.RunAnswers.{run_unscheduled, run_unfit, run_done, run_refused, out_written}
 use Rattle.session.proofs.runs.run.Goals as goal
 
--- the bytes are not all good, so there is a first bad one
-some_bad : (n : ℕ) (schedule : List ℕ) (r : Bool) → r ≡ all (byte_ok n) schedule → r ≡ false → length schedule < 2 ^ 64 → first_bad (byte_ok n) 1 schedule ≢ 0
-some_bad n schedule r o f h e = failed _ (sym o ∙ f) (none_first (byte_ok n) 1 schedule (omega arith) e)
-
-pub overflow_sub-result : goal.overflow_sub-result
-overflow_sub-result c =
-    let a = c.args in
-    let some = some_bad (parties_of a.sheet.now) a.schedule.now _ c.schedule_ok.ensures c.if-not-schedule_ok.true (omega arith) in
-    let e = c.first_bad_byte.ensures in
-    omega arith
-
-pub returns-then-not-schedule_ok : goal.returns-then-not-schedule_ok
-returns-then-not-schedule_ok c =
+pub returns-in-Some : goal.returns-in-Some
+returns-in-Some c =
     let a = c.args in
     let sheet = a.sheet.now in
     let proposals = a.proposals.now in
     let schedule = a.schedule.now in
     let opening : done ≡ open_answer sheet proposals = c.in_ok-opens.ensures in
-    let some = some_bad (parties_of sheet) schedule _ c.schedule_ok.ensures c.if-not-schedule_ok.true (omega arith) in
-    let r = Schedule (c.first_bad_byte.result - 1) in
-    let e =
-    ap (λ (k : ℕ). answer 8 (k - 1)) c.first_bad_byte.ensures
-    ∙ run_unscheduled sheet proposals schedule a.out.now opening some in
+    let bad : first_bad (byte_ok (parties_of sheet)) 1 schedule ≡ c.in-Some.at + 1 = c.in-Some.ensures in
+    let r = Schedule c.in-Some.at in
+    let place : c.in-Some.at ≡ first_bad (byte_ok (parties_of sheet)) 1 schedule - 1 = omega (arith, bad) in
+    let e = ap (answer 8) place ∙ run_unscheduled sheet proposals schedule a.out.now opening (λ none. omega (arith, bad, none)) in
     let told = run_refused sheet proposals schedule a.out.now (Err r) r refl e in
     record { result_value = told.0; out_after = told.1 }
 
@@ -55,7 +40,7 @@ returns-then-out-n c =
     let proposals = a.proposals.now in
     let schedule = a.schedule.now in
     let opening : done ≡ open_answer sheet proposals = c.in_ok-opens.ensures in
-    let none = first_none _ 1 schedule (held _ (sym c.schedule_ok.ensures ∙ c.if-not-schedule_ok.false)) in
+    let none = c.in_default.ensures in
     let e = run_unfit sheet proposals schedule a.out.now opening none (omega arith) in
     let told = run_refused sheet proposals schedule a.out.now (Err Output) Output refl e in
     record { result_value = told.0; out_after = told.1 }
@@ -68,7 +53,7 @@ obey-parties-requires c =
     let schedule = a.schedule.now in
     let opening : done ≡ open_answer sheet proposals = c.in_ok-opens.ensures in
     let says = opens_says sheet proposals (sym opening) in
-    (says.0, refl, says.1, held _ (sym c.schedule_ok.ensures ∙ c.if-not-schedule_ok.false))
+    (says.0, refl, says.1, none_first (byte_ok (parties_of sheet)) 1 schedule (omega arith) c.in_default.ensures)
 
 pub returns : goal.returns
 returns c =
@@ -80,7 +65,7 @@ returns c =
     let says = opens_says sheet proposals (sym opening) in
     let few = says.0.before.before.before.header.parties_most in
     let n = parties_of sheet in
-    let none = first_none _ 1 schedule (held _ (sym c.schedule_ok.ensures ∙ c.if-not-schedule_ok.false)) in
+    let none = c.in_default.ensures in
     let e = run_done sheet proposals schedule a.out.now opening none (omega arith) in
     record {
       result_value = e;
