@@ -1,9 +1,8 @@
 // The rows of a sheet and the reader that goes from one to the next.
-ghost use Rattle.std.specs.Prelude.{◌≡◌, ◌+◌, ◌<◌, ◌≤◌, length, drop};
+ghost use Rattle.std.specs.Prelude.{◌≡◌, ◌+◌, ◌<◌, ◌≤◌, length, take, drop};
 ghost use Rattle.sheet.specs.Sizes.{row_length};
 ghost use Rattle.sheet.specs.Rows.{slot, slot_after, row_count, sheet_length, row_from, taken, row_place, row_of};
 
-use crate::bytes;
 use crate::sizes::{HEADER_LENGTH, MASK_AT, MOST_PARTIES, MOST_ROWS, OWN_AT, PAIR_AT, ROW_LENGTH};
 
 #[derive(Clone, Copy)]
@@ -74,7 +73,7 @@ pub fn row_count(n: u8) -> usize
     if n == 0 {
         return 0;
     }
-    let m = bytes::size(n);
+    let m = usize::from(n);
     m * (m + 1) / 2 - 1
 }
 
@@ -85,16 +84,24 @@ pub fn sheet_length(n: u8) -> usize
     HEADER_LENGTH + ROW_LENGTH * row_count(n)
 }
 
+// The N bytes at a place.
+fn bytes_at<const N: usize>(s: &[u8], at: usize) -> [u8; N]
+    requires { at + N ≤ length s.now }
+    ensures { result ≡ take N (drop at s.now) }
+{
+    *s[at..].first_chunk().unwrap()
+}
+
 // The row that 14 bytes say.
 fn row_from(s: &[u8], at: usize) -> Row
     requires { at + row_length ≤ length s.now }
     ensures { result ≡ row_from (drop at s.now) }
 {
     Row {
-        start: bytes::two_at(s, at),
-        mask: bytes::eight_at(s, at + MASK_AT),
-        own: bytes::two_at(s, at + OWN_AT),
-        pair: bytes::two_at(s, at + PAIR_AT),
+        start: u16::from_be_bytes(bytes_at(s, at)),
+        mask: u64::from_be_bytes(bytes_at(s, at + MASK_AT)),
+        own: u16::from_be_bytes(bytes_at(s, at + OWN_AT)),
+        pair: u16::from_be_bytes(bytes_at(s, at + PAIR_AT)),
     }
 }
 
