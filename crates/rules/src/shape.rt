@@ -11,7 +11,7 @@ use sheet::sizes::{
     BOUND_AT, KIND_AT, LENGTH_AT, LENGTH_LOW_AT, MOST_BOUND, MOST_PARTIES, MOST_UNITS, PARTIES_AT,
     UNITS_AT, UNITS_LOW_AT,
 };
-use sheet::{bytes, rows, sets};
+use sheet::{bytes, rows};
 
 // The most parties and units, as wide as the numbers that are tested.
 const PARTIES: u32 = MOST_PARTIES as u32;
@@ -62,22 +62,16 @@ pub(crate) fn length_ok(s: &[u8]) -> bool
 fn row_fits(kind: u8, bound: u8, units: u16, top: bool, w: Row) -> bool
     ensures { result ≡ row_fits kind bound units top w }
 {
-    let start = w.start;
-    let mask = w.mask;
-    if !sets::is_legal(kind, bound, start, mask) {
+    if !w.is_legal(kind, bound) {
         return false;
     }
-    if !sets::is_below(units, start, mask) {
+    if !w.is_below(units) {
         return false;
     }
-    if !sets::has(start, mask, w.own) {
+    if !w.has(w.own) {
         return false;
     }
-    if top {
-        w.pair == 0
-    } else {
-        sets::has(start, mask, w.pair)
-    }
+    if top { w.pair == 0 } else { w.has(w.pair) }
 }
 
 // The first row, counted from 1, that breaks the row rule, or 0.

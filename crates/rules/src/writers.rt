@@ -9,9 +9,9 @@ ghost use Rattle.sheet.specs.Words.{IsSlot};
 ghost use Rattle.rules.specs.Words.{Rules4, Rules5};
 ghost use Rattle.rules.specs.Quick.{beside, clear_of_rounds, quick_rule, edge_after, ascending};
 
+use sheet::rows;
 use sheet::rows::{Row, Slot};
 use sheet::sizes::PARTIES_AT;
-use sheet::{rows, sets};
 
 // What the rows so far say of where rounds lie: rows of this round must start at or past `limit`, and all rows so far end before `end`.
 #[derive(Drop)]
@@ -45,7 +45,7 @@ fn edge_after(e: Edge, first: bool, w: Row) -> Edge
 {
     let limit = choose(first, e.end, e.limit);
     let start = w.start as u32;
-    let end = larger(e.end, start + sets::bits(w.mask) as u32);
+    let end = larger(e.end, start + w.bits());
     Edge {
         ok: both(e.ok, limit <= start),
         limit,
@@ -83,18 +83,16 @@ fn is_beside(round: usize, i: usize, w: Row, j: usize, v: Row) -> bool
     if i == j {
         return true;
     }
-    let start = v.start;
-    let mask = v.mask;
-    if sets::has(start, mask, w.own) {
+    if v.has(w.own) {
         return false;
     }
     if i == round {
         return true;
     }
     if j == round {
-        sets::has(start, mask, w.pair)
+        v.has(w.pair)
     } else {
-        !sets::has(start, mask, w.pair)
+        !v.has(w.pair)
     }
 }
 
@@ -124,7 +122,7 @@ fn is_clear(round: usize, w: Row, other: usize, v: Row) -> bool
     if round == other {
         return true;
     }
-    sets::are_apart(w.start, w.mask, v.start, v.mask)
+    w.is_apart(v)
 }
 
 // A row w of some round, and the rows of all other rounds.
