@@ -6,3 +6,4 @@ pub mod Length
 pub mod Sizes
 pub mod Rows
 pub mod Words
+pub mod Reader

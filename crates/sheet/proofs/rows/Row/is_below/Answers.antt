@@ -1,5 +1,5 @@
 -- An empty set is below any count, and any other exactly if its length past the start stays within it: a shorter mask has no bit there.
-use Rattle.std.proofs.Common.{arith, rules, ◌≡◌, ◌+◌, ◌-◌, ◌^◌, ◌<◌, ◌≤◌, ℕ, true, ap, sym, ◌∙◌}
+use Rattle.std.proofs.Common.{arith, rules, ◌≡◌, ◌+◌, ◌-◌, ◌^◌, ◌<◌, ◌≤◌, ℕ, true, sym}
 use mathlib.Core.Logic.{◌↔◌}
 use native.Mathlib.Nat.{lt_of_lt_of_le}
 use lib.Dec.{T, leb, leb→le, le→leb}
