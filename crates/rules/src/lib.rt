@@ -28,8 +28,7 @@ fn fits(sheet: &[u8]) -> Verdict
     if !shape::length_ok(sheet) {
         return Verdict::Refused(Refusal::Length);
     }
-    let misfit = shape::first_bad_row(sheet);
-    if misfit != 0 {
+    if let Some(misfit) = shape::first_bad_row(sheet) {
         return Verdict::Refused(Refusal::Row(misfit));
     }
     Verdict::Done
@@ -43,8 +42,7 @@ pub fn check(sheet: &[u8]) -> Verdict
     if let Verdict::Refused(_) = verdict {
         return verdict;
     }
-    let clash = writers::first_bad_writer(sheet);
-    if clash != 0 {
+    if let Some(clash) = writers::first_bad_writer(sheet) {
         return Verdict::Refused(Refusal::Writer(clash));
     }
     Verdict::Done

@@ -1,7 +1,7 @@
 // The rows of a sheet and the reader that goes from one to the next.
 ghost use Rattle.std.specs.Prelude.{◌≡◌, ◌+◌, ◌-◌, ◌<◌, ◌≤◌, length, take, drop};
 ghost use Rattle.std.specs.Option.{unwrap_or};
-ghost use Rattle.std.specs.Iterator.{at_most, item_count, YieldsFirst};
+ghost use Rattle.std.specs.Iterator.{at_most, YieldsFirst};
 ghost use Rattle.sheet.specs.Sizes.{row_length, most_rows};
 ghost use Rattle.sheet.specs.Reader.{row_or_none, rows_on, rows_left};
 ghost use Rattle.sheet.specs.Rows.{slot, slot_after, row_count, is_top, sheet_length, row_from, taken, row_place, row_of};
@@ -180,7 +180,9 @@ pub fn row_after(s: &[u8], row: usize) -> Taken
 impl<'a> Rows<'a> {
     // The rows of a sheet of n parties.
     pub fn of_sheet(sheet: &'a [u8], n: u8) -> Self
-        ensures { rows_left result ≡ rows_on sheet.entry.now 0 (slot 2 1) (row_count n) }
+        ensures rows { rows_left result ≡ rows_on sheet.entry.now 0 (slot 2 1) (row_count n) }
+        ensures sheet { result.reader.sheet ≡ sheet.entry }
+        ensures count { result.left < 32768 }
     {
         Rows {
             reader: rows_from(sheet, 0),
@@ -207,7 +209,7 @@ impl<'a> Iterator for Rows<'a> {
 
     ghost next_gives = { YieldsFirst rows_left };
 
-    ghost remaining = { item_count rows_left };
+    ghost remaining = { λ r. at_most r.left };
 
     fn next(&mut self) -> Option<(Slot, Row)> {
         if self.left == 0 {
