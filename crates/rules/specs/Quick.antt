@@ -1,12 +1,13 @@
 -- How the code tests the writer rule: within the round, and across rounds only where they do not ascend in memory.
 -- No public promise cites this page; `proofs/Quick.antt` shows that the answer is the writer rule's.
-use Rattle.std.specs.Prelude.{ℕ, zero, suc, ◌+◌, max, Option, Some, None, option_map, List, [], ◌∷◌, Bool, true, not, ◌&&◌, ◌||◌, cond, leb, eqb}
+use Rattle.std.specs.Prelude.{ℕ, zero, suc, ◌+◌, ◌-◌, max, min, length, Option, Some, None, option_map, List, [], ◌∷◌, Bool, true, not, ◌&&◌, ◌||◌, cond, leb, eqb}
 use Rattle.std.specs.List.{list_all, position}
 use Rattle.sheet.specs.Lists.{from, all}
 use Rattle.sheet.specs.Sets.{apart}
 use Rattle.sheet.specs.Length.{bit_length}
 use Rattle.sheet.specs.Rows.{Layout, slot, slots, row_place, writes}
-use Rattle.sheet.specs.Reader.{rows_on, rows_left}
+use Rattle.sheet.specs.Reader.{whole_rows, rows_on}
+use Rattle.sheet.specs.Left.{rows_left}
 use Rattle.sheet.specs.declared.rows.Row.{Row}
 use Rattle.sheet.specs.declared.rows.Slot.{Slot}
 use Rattle.sheet.specs.declared.rows.Rows.{Rows}
@@ -63,8 +64,12 @@ beside_rows xs p w = list_all (λ x. beside p.round p.party w x.0.party x.1) xs
 abbrev pub clear_of_rows : List (Slot × Row) → ℕ → Row → Bool
 clear_of_rows xs r w = list_all (λ x. eqb r x.0.round || apart w.start w.mask x.1.start x.1.mask) xs
 
+-- the rows of round r, as many as the sheet has
+abbrev pub round_left : List ℕ → ℕ → List (Slot × Row)
+round_left s r = rows_on s (row_place r 1) (slot r 1) (min r (whole_rows (length s) - row_place r 1))
+
 -- p's row w, of a sheet with these rows
 abbrev pub quick_row : Rows → Bool → Slot → Row → Bool
 quick_row rows ascending p w =
-    beside_rows (rows_on rows.reader.sheet.now (row_place p.round 1) (slot p.round 1) p.round) p w
+    beside_rows (round_left rows.reader.sheet.now p.round) p w
     && (ascending || clear_of_rows (rows_left rows) p.round w)

@@ -1,9 +1,10 @@
 // The writer rule over a whole sheet: within each round, and across rounds only where they do not ascend in memory.
-ghost use Rattle.std.specs.Prelude.{◌≡◌, true, eqb};
+ghost use Rattle.std.specs.Prelude.{◌≡◌, ◌||◌, true, eqb};
 ghost use Rattle.std.specs.List.{fold};
 ghost use Rattle.sheet.specs.Lists.{first_bad};
+ghost use Rattle.sheet.specs.Sets.{apart};
 ghost use Rattle.sheet.specs.Rows.{layout_of, slots, parties_of};
-ghost use Rattle.sheet.specs.Reader.{rows_left};
+ghost use Rattle.sheet.specs.Left.{rows_left};
 ghost use Rattle.rules.specs.Rules.{writer_rule};
 ghost use Rattle.rules.specs.Words.{Rules5};
 ghost use Rattle.rules.specs.Quick.{beside, edge, edge_after, number_or_none, beside_rows, clear_of_rows, quick_row, first_not};
@@ -69,14 +70,21 @@ fn is_beside(slot: Slot, row: Row, party: usize, other: Row) -> bool
 fn alone_in_round(mut round: Rows, slot: Slot, row: Row) -> bool
     ensures { result ≡ beside_rows (rows_left round.entry) slot row }
 {
-    round.all(|(other, v)| is_beside(slot, row, other.party, v))
+    round.all(|(seat, other)| is_beside(slot, row, seat.party, other))
+}
+
+// A row of one round beside a row of another; rows of the same round are not looked at here.
+fn is_clear(round: usize, row: Row, other_round: usize, other: Row) -> bool
+    ensures { result ≡ (eqb round other_round || apart row.start row.mask other.start other.mask) }
+{
+    round == other_round || row.is_apart(other)
 }
 
 // A row of one round, and the rows of all other rounds.
 fn clear_of_rounds(mut rows: Rows, round: usize, row: Row) -> bool
     ensures { result ≡ clear_of_rows (rows_left rows.entry) round row }
 {
-    rows.all(|(other, v)| round == other.round || row.is_apart(v))
+    rows.all(|(slot, other)| is_clear(round, row, slot.round, other))
 }
 
 // Whether one of a sheet's rows keeps the writer rule. The other rounds are looked at only where rounds do not ascend.

@@ -7,3 +7,4 @@ pub mod Sizes
 pub mod Rows
 pub mod Words
 pub mod Reader
+pub mod Left

@@ -1,10 +1,10 @@
 // The rows of a sheet and the reader that goes from one to the next.
-ghost use Rattle.std.specs.Prelude.{◌≡◌, ◌+◌, ◌-◌, ◌<◌, ◌≤◌, length, take, drop};
+ghost use Rattle.std.specs.Prelude.{◌≡◌, ◌+◌, ◌-◌, ◌*◌, ◌<◌, ◌≤◌, min, length, take, drop};
 ghost use Rattle.std.specs.Option.{unwrap_or};
 ghost use Rattle.std.specs.Iterator.{at_most, YieldsFirst};
-ghost use Rattle.sheet.specs.Sizes.{row_length, most_rows};
-ghost use Rattle.sheet.specs.Reader.{row_or_none, rows_on, rows_left};
-ghost use Rattle.sheet.specs.Rows.{slot, slot_after, row_count, is_top, sheet_length, row_from, taken, row_place, row_of};
+ghost use Rattle.sheet.specs.Sizes.{header_length, row_length, most_rows};
+ghost use Rattle.sheet.specs.Reader.{has_row, row_or_none, whole_rows, rows_on};
+ghost use Rattle.sheet.specs.Rows.{slot, slot_after, row_count, is_top, sheet_length, row_from, row_at, taken, row_place, row_of};
 
 use crate::sizes::{HEADER_LENGTH, MASK_AT, MOST_PARTIES, MOST_ROWS, OWN_AT, PAIR_AT, ROW_LENGTH};
 
@@ -43,6 +43,7 @@ pub struct Rows<'a> {
     pub reader: RowReader<'a>,
     pub slot: Slot,
     pub left: usize,
+    ghost whole: { left ≤ whole_rows (length reader.sheet.now) - reader.row },
 }
 
 impl Slot {
@@ -106,7 +107,7 @@ fn bytes_at<const N: usize>(s: &[u8], at: usize) -> [u8; N]
     requires { at + N ≤ length s.now }
     ensures { result ≡ take N (drop at s.now) }
 {
-    *s[at..].first_chunk().unwrap()
+    *s[at..at + N].first_chunk().unwrap()
 }
 
 // The row that 14 bytes say.
@@ -122,19 +123,6 @@ fn row_from(s: &[u8], at: usize) -> Row
     }
 }
 
-// Row `row` of a sheet, counted from 0, where the sheet has the whole of it.
-pub fn row_at(s: &[u8], row: usize) -> Option<Row>
-    ensures { result ≡ row_or_none s.now row }
-{
-    if row < MOST_ROWS {
-        let at = HEADER_LENGTH + ROW_LENGTH * row;
-        if at + ROW_LENGTH <= s.len() {
-            return Some(row_from(s, at));
-        }
-    }
-    None
-}
-
 // ---- the reader
 
 // A reader at any row.
@@ -142,6 +130,34 @@ pub fn rows_from<'a>(sheet: &'a [u8], row: usize) -> RowReader<'a>
     ensures { (result.sheet ≡ sheet.entry) × (result.row ≡ row) }
 {
     RowReader { sheet, row }
+}
+
+impl<'a> RowReader<'a> {
+    // How many whole rows the sheet has from the place on.
+    fn whole(self) -> usize
+        ensures { result ≡ whole_rows (length self.entry.sheet.now) - self.entry.row }
+    {
+        (self.sheet.len().saturating_sub(HEADER_LENGTH) / ROW_LENGTH).saturating_sub(self.row)
+    }
+
+    // Whether the place is one of a sheet's, and the whole of its row is there.
+    fn has_row(self) -> bool
+        ensures { result ≡ has_row self.entry.sheet.now self.entry.row }
+    {
+        self.row < MOST_ROWS && HEADER_LENGTH + ROW_LENGTH * (self.row + 1) <= self.sheet.len()
+    }
+
+    // The row at the place, and the place goes on.
+    fn read(&mut self) -> Row
+        requires { header_length + row_length * (self.old.row + 1) ≤ length self.old.sheet.now }
+        ensures row { result ≡ row_at self.old.sheet.now self.old.row }
+        ensures sheet { self.new.sheet ≡ self.old.sheet }
+        ensures place { self.new.row ≡ self.old.row + 1 }
+    {
+        let row = row_from(self.sheet, HEADER_LENGTH + ROW_LENGTH * self.row);
+        self.row += 1;
+        row
+    }
 }
 
 // The row at the reader's place, and the place goes on; where there is none, it stays.
@@ -155,10 +171,19 @@ impl<'a> Iterator for RowReader<'a> {
     ghost remaining = { λ r. at_most (most_rows - r.row) };
 
     fn next(&mut self) -> Option<Row> {
-        let row = row_at(self.sheet, self.row)?;
-        self.row += 1;
-        Some(row)
+        if self.has_row() {
+            Some(self.read())
+        } else {
+            None
+        }
     }
+}
+
+// Row `row` of a sheet, counted from 0, where the sheet has the whole of it.
+pub fn row_at(s: &[u8], row: usize) -> Option<Row>
+    ensures { result ≡ row_or_none s.now row }
+{
+    rows_from(s, row).next()
 }
 
 // The row at a place and the next place, or zeros and the same place where there is no row.
@@ -177,34 +202,42 @@ pub fn row_after(s: &[u8], row: usize) -> Taken
     }
 }
 
+// ---- rows with their slots
+
 impl<'a> Rows<'a> {
+    ghost use Rattle.sheet.specs.Left.{rows_left};
+
     // The rows of a sheet of n parties.
     pub fn of_sheet(sheet: &'a [u8], n: u8) -> Self
-        ensures rows { rows_left result ≡ rows_on sheet.entry.now 0 (slot 2 1) (row_count n) }
+        ensures rows { rows_left result ≡ rows_on sheet.entry.now 0 (slot 2 1) (min (row_count n) (whole_rows (length sheet.entry.now))) }
         ensures sheet { result.reader.sheet ≡ sheet.entry }
         ensures count { result.left < 32768 }
     {
+        let reader = rows_from(sheet, 0);
         Rows {
-            reader: rows_from(sheet, 0),
+            reader,
             slot: Slot::first(),
-            left: row_count(n),
+            left: row_count(n).min(reader.whole()),
         }
     }
 
     // The rows of one round of the same sheet.
     pub fn of_round(self, round: usize) -> Self
-        ensures { rows_left result ≡ rows_on self.entry.reader.sheet.now (row_place round 1) (slot round 1) round }
+        ensures { rows_left result ≡ rows_on self.entry.reader.sheet.now (row_place round 1) (slot round 1) (min round (whole_rows (length self.entry.reader.sheet.now) - row_place round 1)) }
     {
+        let reader = rows_from(self.reader.sheet, row_place(round, 1).unwrap_or(MOST_ROWS));
         Rows {
-            reader: rows_from(self.reader.sheet, row_place(round, 1).unwrap_or(MOST_ROWS)),
+            reader,
             slot: Slot { round, party: 1 },
-            left: round,
+            left: round.min(reader.whole()),
         }
     }
 }
 
 // Each row with its slot.
 impl<'a> Iterator for Rows<'a> {
+    ghost use Rattle.sheet.specs.Left.{rows_left};
+
     type Item = (Slot, Row);
 
     ghost next_gives = { YieldsFirst rows_left };
@@ -215,7 +248,7 @@ impl<'a> Iterator for Rows<'a> {
         if self.left == 0 {
             return None;
         }
-        let row = self.reader.next()?;
+        let row = self.reader.read();
         let slot = self.slot;
         self.slot = slot.next();
         self.left -= 1;

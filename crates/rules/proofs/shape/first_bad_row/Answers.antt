@@ -6,7 +6,7 @@ use Rattle.std.proofs.lemmas.Iterator.Search.{position_from_yields_List}
 use borrow.Author.Tests.{tests}
 use Rattle.sheet.specs.Bytes.{num}
 use Rattle.sheet.specs.Rows.{slots, parties_of, is_top}
-use Rattle.sheet.specs.Reader.{rows_left}
+use Rattle.sheet.specs.Left.{rows_left}
 use Rattle.sheet.specs.declared.rows.Row.{Row}
 use Rattle.sheet.specs.declared.rows.Slot.{Slot}
 use Rattle.rules.specs.Rules.{row_fits}

@@ -3,7 +3,7 @@ use Rattle.std.proofs.Common.{refl, rules}
 use Rattle.std.proofs.lemmas.Iterator.Consumers.{YieldsList-from_first}
 use Rattle.std.proofs.lemmas.Iterator.Search.{all_from_yields_List}
 use borrow.Author.Tests.{tests}
-use Rattle.sheet.specs.Reader.{rows_left}
+use Rattle.sheet.specs.Left.{rows_left}
 use Rattle.rules.specs.Quick.{beside}
 use Rattle.rules.proofs.writers.alone_in_round.Goals as goal
 

@@ -4,7 +4,7 @@ use Rattle.std.proofs.lemmas.Iterator.Consumers.{YieldsList-from_first}
 use Rattle.std.proofs.lemmas.Iterator.Search.{all_from_yields_List}
 use borrow.Author.Tests.{tests}
 use Rattle.sheet.specs.Sets.{apart}
-use Rattle.sheet.specs.Reader.{rows_left}
+use Rattle.sheet.specs.Left.{rows_left}
 use Rattle.rules.proofs.writers.clear_of_rounds.Goals as goal
 
 pub returns : goal.returns

@@ -3,7 +3,7 @@ use Rattle.std.proofs.Common.{◌≡◌, ◌∙◌, List, map, true, eqb, ap, su
 use Rattle.std.specs.List.{fold}
 use lib.Dec.{T}
 use Rattle.sheet.specs.Rows.{layout_of, slots, parties_of}
-use Rattle.sheet.specs.Reader.{rows_left}
+use Rattle.sheet.specs.Left.{rows_left}
 use Rattle.sheet.specs.declared.rows.Row.{Row}
 use Rattle.sheet.specs.declared.rows.Slot.{Slot}
 use Rattle.rules.specs.Quick.{edge, edge_after, ascending, quick_rule, quick_row, first_not, number_or_none}

@@ -3,7 +3,7 @@ use Rattle.std.specs.List.{position}
 use Rattle.std.proofs.lemmas.Iterator.Consumers.{YieldsList-from_first}
 use Rattle.std.proofs.lemmas.Iterator.Search.{position_from_yields_List}
 use borrow.Author.Tests.{tests}
-use Rattle.sheet.specs.Reader.{rows_left}
+use Rattle.sheet.specs.Left.{rows_left}
 use Rattle.rules.specs.Quick.{quick_row}
 use Rattle.rules.proofs.writers.first_clash.Goals as goal
 
