@@ -28,8 +28,7 @@ fn fits(sheet: &[u8]) -> Result<(), Refusal>
     if !shape::length_ok(sheet) {
         return Err(Refusal::Length);
     }
-    let misfit = shape::first_bad_row(sheet);
-    if misfit != 0 {
+    if let Some(misfit) = shape::first_bad_row(sheet) {
         return Err(Refusal::Row(misfit));
     }
     Ok(())
@@ -40,8 +39,7 @@ pub fn check(sheet: &[u8]) -> Result<(), Refusal>
     ensures { answer_of result ≡ check_answer sheet.now }
 {
     fits(sheet)?;
-    let clash = writers::first_bad_writer(sheet);
-    if clash != 0 {
+    if let Some(clash) = writers::first_bad_writer(sheet) {
         return Err(Refusal::Writer(clash));
     }
     Ok(())

@@ -1,50 +1,48 @@
 // The header, the lengths and the row rule.
 ghost use Rattle.std.specs.Prelude.{◌≡◌};
-ghost use Rattle.sheet.specs.Lists.{first_bad, within};
-ghost use Rattle.sheet.specs.Rows.{layout_of, slots, parties_of};
+ghost use Rattle.sheet.specs.Lists.{first_bad};
+ghost use Rattle.sheet.specs.Rows.{layout_of, slots, parties_of, is_top};
 ghost use Rattle.rules.specs.Rules.{row_fits, row_rule};
 ghost use Rattle.rules.specs.Check.{numbers_ok, header_ok, length_ok};
+ghost use Rattle.rules.specs.Quick.{number_or_none};
 ghost use Rattle.rules.specs.Words.{Rules1, Rules4};
 
-use sheet::rows::{Row, Slot};
+use sheet::rows;
+use sheet::rows::{Row, Rows, Slot};
 use sheet::sizes::{
     BOUND_AT, KIND_AT, LENGTH_AT, LENGTH_LOW_AT, MOST_BOUND, MOST_PARTIES, MOST_UNITS, PARTIES_AT,
     UNITS_AT, UNITS_LOW_AT,
 };
-use sheet::{bytes, rows, sets};
 
 // The most parties and units, as wide as the numbers that are tested.
 const PARTIES: u32 = MOST_PARTIES as u32;
 
-const UNITS: u32 = MOST_UNITS as u32;
-
-fn is_within(lo: u32, hi: u32, x: u32) -> bool
-    ensures { result ≡ within lo hi x }
-{
-    if lo <= x { x <= hi } else { false }
-}
+const UNITS: u16 = MOST_UNITS as u16;
 
 // Kind 1 or 2, bound 1 to 64, parties 1 to 16.
 pub fn numbers_ok(kind: u32, bound: u32, parties: u32) -> bool
     ensures { result ≡ numbers_ok kind bound parties }
 {
-    if !is_within(1, 2, kind) {
-        return false;
-    }
-    if !is_within(1, MOST_BOUND, bound) {
-        return false;
-    }
-    is_within(1, PARTIES, parties)
+    (1..=2).contains(&kind) && (1..=MOST_BOUND).contains(&bound) && (1..=PARTIES).contains(&parties)
 }
 
 pub(crate) fn header_ok(s: &[u8]) -> bool
     requires { Rules1 s.now }
     ensures { result ≡ header_ok (layout_of s.now) }
 {
-    if !numbers_ok(s[KIND_AT] as u32, s[BOUND_AT] as u32, s[PARTIES_AT] as u32) {
-        return false;
-    }
-    is_within(1, UNITS, bytes::two(s[UNITS_AT], s[UNITS_LOW_AT]) as u32)
+    numbers_ok(
+        u32::from(s[KIND_AT]),
+        u32::from(s[BOUND_AT]),
+        u32::from(s[PARTIES_AT]),
+    ) && (1..=UNITS).contains(&units(s))
+}
+
+// How many units a sheet is for.
+fn units(s: &[u8]) -> u16
+    requires { Rules1 s.now }
+    ensures { result ≡ (layout_of s.now).units }
+{
+    u16::from_be_bytes([s[UNITS_AT], s[UNITS_LOW_AT]])
 }
 
 pub(crate) fn length_ok(s: &[u8]) -> bool
@@ -52,53 +50,32 @@ pub(crate) fn length_ok(s: &[u8]) -> bool
     ensures { result ≡ length_ok s.now }
 {
     let whole = rows::sheet_length(s[PARTIES_AT]);
-    if bytes::two(s[LENGTH_AT], s[LENGTH_LOW_AT]) as usize != whole {
-        return false;
-    }
-    s.len() == whole
+    usize::from(u16::from_be_bytes([s[LENGTH_AT], s[LENGTH_LOW_AT]])) == whole && s.len() == whole
 }
 
 // Whether a row keeps the row rule.
-fn row_fits(kind: u8, bound: u8, units: u16, top: bool, w: Row) -> bool
-    ensures { result ≡ row_fits kind bound units top w }
+fn row_fits(kind: u8, bound: u8, units: u16, slot: Slot, row: Row) -> bool
+    ensures { result ≡ row_fits kind bound units (is_top slot) row }
 {
-    let start = w.start;
-    let mask = w.mask;
-    if !sets::is_legal(kind, bound, start, mask) {
-        return false;
-    }
-    if !sets::is_below(units, start, mask) {
-        return false;
-    }
-    if !sets::has(start, mask, w.own) {
-        return false;
-    }
-    if top {
-        w.pair == 0
-    } else {
-        sets::has(start, mask, w.pair)
-    }
+    row.is_legal(kind, bound)
+        && row.is_below(units)
+        && row.has(row.own)
+        && if slot.is_top() {
+            row.pair == 0
+        } else {
+            row.has(row.pair)
+        }
 }
 
-// The first row, counted from 1, that breaks the row rule, or 0.
-pub(crate) fn first_bad_row(s: &[u8]) -> usize
+// The first row, counted from 1, that breaks the row rule.
+pub(crate) fn first_bad_row(s: &[u8]) -> Option<usize>
     requires { Rules4 s.now }
-    ensures { result ≡ first_bad (row_rule (layout_of s.now)) 1 (slots (parties_of s.now)) }
+    ensures { result ≡ number_or_none (first_bad (row_rule (layout_of s.now)) 1 (slots (parties_of s.now))) }
 {
     let kind = s[KIND_AT];
     let bound = s[BOUND_AT];
-    let count = rows::row_count(s[PARTIES_AT]);
-    let units = bytes::two(s[UNITS_AT], s[UNITS_LOW_AT]);
-    let mut p = Slot::first();
-    let mut k = 0;
-    while k < count {
-        let t = rows::row_after(s, k);
-        let w = t.row;
-        if !row_fits(kind, bound, units, p.party == p.round, w) {
-            return k + 1;
-        }
-        p = p.next();
-        k = t.next;
-    }
-    0
+    let units = units(s);
+    Rows::of_sheet(s, s[PARTIES_AT])
+        .position(|(slot, row)| !row_fits(kind, bound, units, slot, row))
+        .map(|k| k + 1)
 }

@@ -1,17 +1,16 @@
 // The writer rule over a whole sheet: within each round, and across rounds only where they do not ascend in memory.
-ghost use Rattle.std.specs.Prelude.{◌≡◌, ◌&&◌, ◌||◌, cond, ◌+◌, ◌-◌, ◌*◌, ◌≤◌, max, length, eqb};
-ghost use Rattle.sheet.specs.Sizes.{header_length, row_length, most_rows};
-ghost use Rattle.sheet.specs.Lists.{from, all, first_bad};
+ghost use Rattle.std.specs.Prelude.{◌≡◌, ◌||◌, true, eqb};
+ghost use Rattle.std.specs.List.{fold};
+ghost use Rattle.sheet.specs.Lists.{first_bad};
 ghost use Rattle.sheet.specs.Sets.{apart};
-ghost use Rattle.sheet.specs.Rows.{layout_of, slots, row_at, row_number, parties_of};
+ghost use Rattle.sheet.specs.Rows.{layout_of, slots, parties_of};
+ghost use Rattle.sheet.specs.Left.{rows_left};
 ghost use Rattle.rules.specs.Rules.{writer_rule};
-ghost use Rattle.sheet.specs.Words.{IsSlot};
-ghost use Rattle.rules.specs.Words.{Rules4, Rules5};
-ghost use Rattle.rules.specs.Quick.{beside, clear_of_rounds, quick_rule, edge_after, ascending};
+ghost use Rattle.rules.specs.Words.{Rules5};
+ghost use Rattle.rules.specs.Quick.{beside, edge, edge_after, number_or_none, beside_rows, clear_of_rows, quick_row, first_not};
 
-use sheet::rows::{Row, Slot};
+use sheet::rows::{Row, Rows, Slot};
 use sheet::sizes::PARTIES_AT;
-use sheet::{rows, sets};
 
 // What the rows so far say of where rounds lie: rows of this round must start at or past `limit`, and all rows so far end before `end`.
 #[derive(Drop)]
@@ -21,173 +20,95 @@ pub(crate) struct Edge {
     pub end: u32,
 }
 
-fn choose(first: bool, a: u32, b: u32) -> u32
-    ensures { result ≡ cond first a b }
-{
-    if first { a } else { b }
-}
-
-fn larger(a: u32, b: u32) -> u32
-    ensures { result ≡ max a b }
-{
-    if a < b { b } else { a }
-}
-
-fn both(a: bool, b: bool) -> bool
-    ensures { result ≡ (a && b) }
-{
-    if a { b } else { false }
-}
-
 // One row more: `first` where it is its round's first.
-fn edge_after(e: Edge, first: bool, w: Row) -> Edge
-    ensures { result ≡ edge_after e first w }
+fn edge_after(e: Edge, first: bool, row: Row) -> Edge
+    ensures { result ≡ edge_after e first row }
 {
-    let limit = choose(first, e.end, e.limit);
-    let start = w.start as u32;
-    let end = larger(e.end, start + sets::bits(w.mask) as u32);
+    let start = u32::from(row.start);
+    let limit = if first { e.end } else { e.limit };
     Edge {
-        ok: both(e.ok, limit <= start),
+        ok: e.ok && limit <= start,
         limit,
-        end,
+        end: e.end.max(start + row.bits()),
     }
 }
 
 // Whether each round lies past the rounds before it: one pass, with no early exit.
-fn ascends(s: &[u8]) -> bool
-    requires { Rules4 s.now }
-    ensures { result ≡ ascending (layout_of s.now) }
+fn ascends(rows: Rows) -> bool
+    ensures { result ≡ (fold (λ e x. edge_after e (eqb x.0.party 1) x.1) (edge true 0 0) (rows_left rows.entry)).ok }
 {
-    let count = rows::row_count(s[PARTIES_AT]);
-    let mut e = Edge {
+    let start = Edge {
         ok: true,
         limit: 0,
         end: 0,
     };
-    let mut p = Slot::first();
-    let mut k = 0;
-    while k < count {
-        let t = rows::row_after(s, k);
-        let w = t.row;
-        e = edge_after(e, p.party == 1, w);
-        p = p.next();
-        k = t.next;
-    }
-    e.ok
+    rows.fold(start, |e, (slot, row)| edge_after(e, slot.party == 1, row))
+        .ok
 }
 
-// Party i's row w beside party j's row v of the same round.
-fn is_beside(round: usize, i: usize, w: Row, j: usize, v: Row) -> bool
-    ensures { result ≡ beside round i w j v }
+// A row beside another party's row of the same round.
+fn is_beside(slot: Slot, row: Row, party: usize, other: Row) -> bool
+    ensures { result ≡ beside slot.round slot.party row party other }
 {
-    if i == j {
+    if slot.party == party {
         return true;
     }
-    let start = v.start;
-    let mask = v.mask;
-    if sets::has(start, mask, w.own) {
+    if other.has(row.own) {
         return false;
     }
-    if i == round {
+    if slot.is_top() {
         return true;
     }
-    if j == round {
-        sets::has(start, mask, w.pair)
+    if party == slot.round {
+        other.has(row.pair)
     } else {
-        !sets::has(start, mask, w.pair)
+        !other.has(row.pair)
     }
 }
 
-// Party i's row w beside all rows of its round, of which the first is row `base`.
-fn alone_in_round(s: &[u8], base: usize, round: usize, i: usize, w: Row) -> bool
-    requires { (base + round ≤ most_rows) × (header_length + row_length * (base + round) ≤ length s.now) }
-    ensures { result ≡ all (λ j. beside round i w j (row_at s.now (base + j - 1))) (from 1 round) }
+// A row beside all rows of its round.
+fn alone_in_round(mut round: Rows, slot: Slot, row: Row) -> bool
+    ensures { result ≡ beside_rows (rows_left round.entry) slot row }
 {
-    let mut j = 1;
-    let mut k = base;
-    while j <= round {
-        let t = rows::row_after(s, k);
-        let v = t.row;
-        if !is_beside(round, i, w, j, v) {
-            return false;
-        }
-        j += 1;
-        k = t.next;
-    }
-    true
+    round.all(|(seat, other)| is_beside(slot, row, seat.party, other))
 }
 
-// A row w of one round beside a row v of another; rows of the same round are not looked at here.
-fn is_clear(round: usize, w: Row, other: usize, v: Row) -> bool
-    ensures { result ≡ (eqb round other || apart w.start w.mask v.start v.mask) }
+// A row of one round beside a row of another; rows of the same round are not looked at here.
+fn is_clear(round: usize, row: Row, other_round: usize, other: Row) -> bool
+    ensures { result ≡ (eqb round other_round || apart row.start row.mask other.start other.mask) }
 {
-    if round == other {
-        return true;
-    }
-    sets::are_apart(w.start, w.mask, v.start, v.mask)
+    round == other_round || row.is_apart(other)
 }
 
-// A row w of some round, and the rows of all other rounds.
-fn clear_of_rounds(s: &[u8], round: usize, w: Row) -> bool
-    requires { Rules4 s.now }
-    ensures { result ≡ clear_of_rounds (layout_of s.now) round w }
+// A row of one round, and the rows of all other rounds.
+fn clear_of_rounds(mut rows: Rows, round: usize, row: Row) -> bool
+    ensures { result ≡ clear_of_rows (rows_left rows.entry) round row }
 {
-    let count = rows::row_count(s[PARTIES_AT]);
-    let mut p = Slot::first();
-    let mut k = 0;
-    while k < count {
-        let t = rows::row_after(s, k);
-        let v = t.row;
-        if !is_clear(round, w, p.round, v) {
-            return false;
-        }
-        p = p.next();
-        k = t.next;
-    }
-    true
+    rows.all(|(slot, other)| is_clear(round, row, slot.round, other))
 }
 
-// Whether row k, which is p's, keeps the writer rule. The other rounds are looked at only where rounds do not ascend.
-fn writer_fits(s: &[u8], ascending: bool, p: Slot, k: usize) -> bool
-    requires rules4 { Rules4 s.now }
-    requires slot { IsSlot (parties_of s.now) p }
-    requires k_value { k + 1 ≡ row_number p }
-    ensures { result ≡ quick_rule (layout_of s.now) ascending p }
+// Whether one of a sheet's rows keeps the writer rule. The other rounds are looked at only where rounds do not ascend.
+fn writer_fits(rows: Rows, ascending: bool, slot: Slot, row: Row) -> bool
+    ensures { result ≡ quick_row rows.entry ascending slot row }
 {
-    let t = rows::row_after(s, k);
-    let w = t.row;
-    let round = p.round;
-    let party = p.party;
-    if !alone_in_round(s, k + 1 - party, round, party, w) {
-        return false;
-    }
-    if ascending {
-        return true;
-    }
-    clear_of_rounds(s, round, w)
+    alone_in_round(rows.of_round(slot.round), slot, row)
+        && (ascending || clear_of_rounds(rows, slot.round, row))
 }
 
-fn first_clash(s: &[u8], ascending: bool) -> usize
-    requires { Rules4 s.now }
-    ensures { result ≡ first_bad (quick_rule (layout_of s.now) ascending) 1 (slots (parties_of s.now)) }
+// The first row, counted from 1, that breaks the writer rule by that test.
+fn first_clash(rows: Rows, ascending: bool) -> Option<usize>
+    ensures { result ≡ first_not (λ x. quick_row rows.entry ascending x.0 x.1) (rows_left rows.entry) }
 {
-    let count = rows::row_count(s[PARTIES_AT]);
-    let mut p = Slot::first();
-    let mut k = 0;
-    while k < count {
-        if !writer_fits(s, ascending, p, k) {
-            return k + 1;
-        }
-        p = p.next();
-        k += 1;
-    }
-    0
+    let mut left = rows;
+    left.position(|(slot, row)| !writer_fits(rows, ascending, slot, row))
+        .map(|k| k + 1)
 }
 
-// The first row, counted from 1, that breaks the writer rule, or 0, where all rows keep the row rule.
-pub(crate) fn first_bad_writer(s: &[u8]) -> usize
+// The first row, counted from 1, that breaks the writer rule, where all rows keep the row rule.
+pub(crate) fn first_bad_writer(s: &[u8]) -> Option<usize>
     requires { Rules5 s.now }
-    ensures { result ≡ first_bad (writer_rule (layout_of s.now)) 1 (slots (parties_of s.now)) }
+    ensures { result ≡ number_or_none (first_bad (writer_rule (layout_of s.now)) 1 (slots (parties_of s.now))) }
 {
-    first_clash(s, ascends(s))
+    let rows = Rows::of_sheet(s, s[PARTIES_AT]);
+    first_clash(rows, ascends(rows))
 }

@@ -7,3 +7,5 @@ pub mod Sizes
 pub mod Rows
 pub mod Kind
 pub mod Words
+pub mod Reader
+pub mod Left

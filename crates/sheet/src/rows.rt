@@ -1,12 +1,14 @@
 // The rows of a sheet and the reader that goes from one to the next.
-ghost use Rattle.std.specs.Prelude.{◌≡◌, ◌+◌, ◌<◌, ◌≤◌, length, drop};
-ghost use Rattle.sheet.specs.Sizes.{row_length};
-ghost use Rattle.sheet.specs.Rows.{slot, slot_after, row_count, sheet_length, row_from, taken, row_place, row_of};
+ghost use Rattle.std.specs.Prelude.{◌≡◌, ◌+◌, ◌-◌, ◌*◌, ◌<◌, ◌≤◌, min, length, take, drop};
+ghost use Rattle.std.specs.Option.{unwrap_or};
+ghost use Rattle.std.specs.Iterator.{at_most, YieldsFirst};
+ghost use Rattle.sheet.specs.Sizes.{header_length, row_length, most_rows};
+ghost use Rattle.sheet.specs.Reader.{has_row, row_or_none, whole_rows, rows_on};
+ghost use Rattle.sheet.specs.Rows.{slot, slot_after, row_count, is_top, sheet_length, row_from, row_at, taken, row_place, row_of};
 
-use crate::bytes;
 use crate::sizes::{HEADER_LENGTH, MASK_AT, MOST_PARTIES, MOST_ROWS, OWN_AT, PAIR_AT, ROW_LENGTH};
 
-#[derive(Clone, Copy)]
+#[derive(Clone, Copy, Default)]
 pub struct Row {
     pub start: u16,
     pub mask: u64,
@@ -35,6 +37,15 @@ pub struct RowReader<'a> {
     pub row: usize,
 }
 
+// A reader with whose its next row is, and how many rows it is to give.
+#[derive(Clone, Copy)]
+pub struct Rows<'a> {
+    pub reader: RowReader<'a>,
+    pub slot: Slot,
+    pub left: usize,
+    ghost whole: { left ≤ whole_rows (length reader.sheet.now) - reader.row },
+}
+
 impl Slot {
     // The first row's.
     pub fn first() -> Self
@@ -47,8 +58,7 @@ impl Slot {
     pub fn next(self) -> Self
         ensures { result ≡ slot_after self }
     {
-        let round = self.round;
-        let party = self.party;
+        let Slot { round, party } = self;
         if MOST_PARTIES < round {
             return self;
         }
@@ -64,6 +74,13 @@ impl Slot {
             }
         }
     }
+
+    // Whether it is the round's top.
+    pub fn is_top(self) -> bool
+        ensures { result ≡ is_top self }
+    {
+        self.party == self.round
+    }
 }
 
 // How many rows a sheet of n parties has.
@@ -74,7 +91,7 @@ pub fn row_count(n: u8) -> usize
     if n == 0 {
         return 0;
     }
-    let m = bytes::size(n);
+    let m = usize::from(n);
     m * (m + 1) / 2 - 1
 }
 
@@ -85,40 +102,24 @@ pub fn sheet_length(n: u8) -> usize
     HEADER_LENGTH + ROW_LENGTH * row_count(n)
 }
 
+// The N bytes at a place.
+fn bytes_at<const N: usize>(s: &[u8], at: usize) -> [u8; N]
+    requires { at + N ≤ length s.now }
+    ensures { result ≡ take N (drop at s.now) }
+{
+    *s[at..at + N].first_chunk().unwrap()
+}
+
 // The row that 14 bytes say.
 fn row_from(s: &[u8], at: usize) -> Row
     requires { at + row_length ≤ length s.now }
     ensures { result ≡ row_from (drop at s.now) }
 {
     Row {
-        start: bytes::two_at(s, at),
-        mask: bytes::eight_at(s, at + MASK_AT),
-        own: bytes::two_at(s, at + OWN_AT),
-        pair: bytes::two_at(s, at + PAIR_AT),
-    }
-}
-
-// The work of the reader: the row at a place, and the next place.
-pub fn row_at(s: &[u8], row: usize) -> Taken
-    ensures { result ≡ taken s.now row }
-{
-    if row < MOST_ROWS {
-        let at = HEADER_LENGTH + ROW_LENGTH * row;
-        if at + ROW_LENGTH <= s.len() {
-            return Taken {
-                row: row_from(s, at),
-                next: row + 1,
-            };
-        }
-    }
-    Taken {
-        row: Row {
-            start: 0,
-            mask: 0,
-            own: 0,
-            pair: 0,
-        },
-        next: row,
+        start: u16::from_be_bytes(bytes_at(s, at)),
+        mask: u64::from_be_bytes(bytes_at(s, at + MASK_AT)),
+        own: u16::from_be_bytes(bytes_at(s, at + OWN_AT)),
+        pair: u16::from_be_bytes(bytes_at(s, at + PAIR_AT)),
     }
 }
 
@@ -131,48 +132,146 @@ pub fn rows_from<'a>(sheet: &'a [u8], row: usize) -> RowReader<'a>
     RowReader { sheet, row }
 }
 
-// The row at the reader's place, and the place goes on.
-pub fn next_row<'s, 'a>(r: &'s mut RowReader<'a>) -> Row
-    ensures { (result ≡ (taken r.old.sheet.now r.old.row).row) × ((r.new.sheet ≡ r.old.sheet) × (r.new.row ≡ (taken r.old.sheet.now r.old.row).next)) }
-{
-    let v = row_at(r.sheet, r.row);
-    r.row = v.next;
-    v.row
+impl<'a> RowReader<'a> {
+    // How many whole rows the sheet has from the place on.
+    fn whole(self) -> usize
+        ensures { result ≡ whole_rows (length self.entry.sheet.now) - self.entry.row }
+    {
+        (self.sheet.len().saturating_sub(HEADER_LENGTH) / ROW_LENGTH).saturating_sub(self.row)
+    }
+
+    // Whether the place is one of a sheet's, and the whole of its row is there.
+    fn has_row(self) -> bool
+        ensures { result ≡ has_row self.entry.sheet.now self.entry.row }
+    {
+        self.row < MOST_ROWS && HEADER_LENGTH + ROW_LENGTH * (self.row + 1) <= self.sheet.len()
+    }
+
+    // The row at the place, and the place goes on.
+    fn read(&mut self) -> Row
+        requires { header_length + row_length * (self.old.row + 1) ≤ length self.old.sheet.now }
+        ensures row { result ≡ row_at self.old.sheet.now self.old.row }
+        ensures sheet { self.new.sheet ≡ self.old.sheet }
+        ensures place { self.new.row ≡ self.old.row + 1 }
+    {
+        let row = row_from(self.sheet, HEADER_LENGTH + ROW_LENGTH * self.row);
+        self.row += 1;
+        row
+    }
 }
 
-// A reader made at a row, lent and read: plain parameters, so that who calls this holds no reader.
+// The row at the reader's place, and the place goes on; where there is none, it stays.
+impl<'a> Iterator for RowReader<'a> {
+    ghost use Rattle.sheet.specs.Reader.{Reads};
+
+    type Item = Row;
+
+    ghost next_gives = { Reads };
+
+    ghost remaining = { λ r. at_most (most_rows - r.row) };
+
+    fn next(&mut self) -> Option<Row> {
+        if self.has_row() {
+            Some(self.read())
+        } else {
+            None
+        }
+    }
+}
+
+// Row `row` of a sheet, counted from 0, where the sheet has the whole of it.
+pub fn row_at(s: &[u8], row: usize) -> Option<Row>
+    ensures { result ≡ row_or_none s.now row }
+{
+    rows_from(s, row).next()
+}
+
+// The row at a place and the next place, or zeros and the same place where there is no row.
 pub fn row_after(s: &[u8], row: usize) -> Taken
     ensures { result ≡ taken s.now row }
 {
-    let mut r = rows_from(s, row);
-    let t = next_row(&mut r);
-    let n = r.row;
-    Taken { row: t, next: n }
+    match row_at(s, row) {
+        Some(w) => Taken {
+            row: w,
+            next: row + 1,
+        },
+        None => Taken {
+            row: Row::default(),
+            next: row,
+        },
+    }
 }
 
-// The place of a party's row of a round, or a place with no row where there can be none.
-fn row_place(round: usize, party: usize) -> usize
-    ensures { result ≡ row_place round party }
+// ---- rows with their slots
+
+impl<'a> Rows<'a> {
+    ghost use Rattle.sheet.specs.Left.{rows_left};
+
+    // The rows of a sheet of n parties.
+    pub fn of_sheet(sheet: &'a [u8], n: u8) -> Self
+        ensures rows { rows_left result ≡ rows_on sheet.entry.now 0 (slot 2 1) (min (row_count n) (whole_rows (length sheet.entry.now))) }
+        ensures sheet { result.reader.sheet ≡ sheet.entry }
+        ensures count { result.left < 32768 }
+    {
+        let reader = rows_from(sheet, 0);
+        Rows {
+            reader,
+            slot: Slot::first(),
+            left: row_count(n).min(reader.whole()),
+        }
+    }
+
+    // The rows of one round of the same sheet.
+    pub fn of_round(self, round: usize) -> Self
+        ensures { rows_left result ≡ rows_on self.entry.reader.sheet.now (row_place round 1) (slot round 1) (min round (whole_rows (length self.entry.reader.sheet.now) - row_place round 1)) }
+    {
+        let reader = rows_from(self.reader.sheet, row_place(round, 1).unwrap_or(MOST_ROWS));
+        Rows {
+            reader,
+            slot: Slot { round, party: 1 },
+            left: round.min(reader.whole()),
+        }
+    }
+}
+
+// Each row with its slot.
+impl<'a> Iterator for Rows<'a> {
+    ghost use Rattle.sheet.specs.Left.{rows_left};
+
+    type Item = (Slot, Row);
+
+    ghost next_gives = { YieldsFirst rows_left };
+
+    ghost remaining = { λ r. at_most r.left };
+
+    fn next(&mut self) -> Option<(Slot, Row)> {
+        if self.left == 0 {
+            return None;
+        }
+        let row = self.reader.read();
+        let slot = self.slot;
+        self.slot = slot.next();
+        self.left -= 1;
+        Some((slot, row))
+    }
+}
+
+// The place of a party's row of a round, or none where there can be no row.
+fn row_place(round: usize, party: usize) -> Option<usize>
+    ensures { row_place round party ≡ unwrap_or result most_rows }
 {
-    if round < 2 {
-        return MOST_ROWS;
+    if (2..=MOST_PARTIES).contains(&round) && (1..=round).contains(&party) {
+        Some(round * (round - 1) / 2 - 1 + party - 1)
+    } else {
+        None
     }
-    if MOST_PARTIES < round {
-        return MOST_ROWS;
-    }
-    if party < 1 {
-        return MOST_ROWS;
-    }
-    if round < party {
-        return MOST_ROWS;
-    }
-    round * (round - 1) / 2 - 1 + party - 1
 }
 
-// A party's row of a round, or no row where there can be none.
+// A party's row of a round, or zeros where there can be none.
 pub fn row_of(s: &[u8], round: usize, party: usize) -> Row
     ensures { result ≡ row_of s.now round party }
 {
-    let t = row_after(s, row_place(round, party));
-    t.row
+    row_place(round, party)
+        .and_then(|place| row_at(s, place))
+        .unwrap_or_default()
 }

@@ -3,5 +3,5 @@ use Rattle.std.proofs.Common.{sym}
 use Rattle.rules.proofs.Says.{fit_says}
 use Rattle.rules.proofs.check.Goals as goal
 
-pub first_bad_writer-clash-requires : goal.first_bad_writer-clash-requires
-first_bad_writer-clash-requires c = fit_says _ (sym c.in_ok-fits.ensures)
+pub first_bad_writer-requires : goal.first_bad_writer-requires
+first_bad_writer-requires c = fit_says _ (sym c.in_ok-fits.ensures)

@@ -1,5 +1,5 @@
 -- An empty set is below any count, and any other exactly if its length past the start stays within it: a shorter mask has no bit there.
-use Rattle.std.proofs.Common.{arith, ◌≡◌, ◌+◌, ◌-◌, ◌^◌, ◌<◌, ◌≤◌, ℕ, true, ap, sym, ◌∙◌}
+use Rattle.std.proofs.Common.{arith, rules, ◌≡◌, ◌+◌, ◌-◌, ◌^◌, ◌<◌, ◌≤◌, ℕ, true, sym}
 use mathlib.Core.Logic.{◌↔◌}
 use native.Mathlib.Nat.{lt_of_lt_of_le}
 use lib.Dec.{T, leb, leb→le, le→leb}
@@ -8,7 +8,7 @@ use Rattle.sheet.specs.Length.{bit_length}
 use Rattle.sheet.proofs.Bits.{bit_under, under_bits}
 use Rattle.sheet.proofs.Folds.{holds, same_test}
 use Rattle.sheet.proofs.WriteSets.{At, bit_at, below_at, length_some, length_least, at_before_end}
-use Rattle.sheet.proofs.sets.is_below.Goals as goal
+use Rattle.sheet.proofs.rows.Row.is_below.Goals as goal
 
 module _ (units start mask : ℕ) (h : mask < 2 ^ 64) where
   says : T (below units start mask) ↔ ((u : ℕ) → At start mask u → u < units)
@@ -32,10 +32,12 @@ module _ (units start mask : ℕ) (h : mask < 2 ^ 64) where
       (λ t. says.1 (λ u p. lt_of_lt_of_le (at_before_end start mask u h p) (leb→le _ _ t)))
       (λ t. le→leb _ _ (end some (says.0 t)))
 
-pub returns-then-mask-eq0 : goal.returns-then-mask-eq0
-returns-then-mask-eq0 c = sym (empty c.args.units c.args.start c.args.mask c.ranges.mask.fits c.if-mask-eq0.true)
+pub returns-then-self-eq0 : goal.returns-then-self-eq0
+returns-then-self-eq0 c =
+    let fits : c.args.self.mask < 2 ^ 64 = search rules in
+    sym (empty c.args.units c.args.self.start c.args.self.mask fits c.if-self-eq0.true)
 
 pub returns : goal.returns
 returns c =
-    ap (λ (x : ℕ). leb (c.args.start + x) c.args.units) c.bits.ensures.value
-    ∙ ends c.args.units c.args.start c.args.mask c.ranges.mask.fits c.if-mask-eq0.false
+    let fits : c.args.self.mask < 2 ^ 64 = search rules in
+    rw (c.from.ensures, c.bits.ensures.value, c.from-2.ensures) (ends c.args.units c.args.self.start c.args.self.mask fits c.if-self-eq0.false)
