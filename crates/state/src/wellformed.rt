@@ -1,6 +1,6 @@
 // Whether a session is well formed: a function for each group of clauses.
 ghost use Rattle.std.specs.Prelude.{◌≡◌, cond, ◌+◌, ◌-◌, ◌/◌, ◌%◌, ◌≤◌, min, length, get_or, take, leb, ltb, eqb};
-ghost use Rattle.sheet.specs.Sizes.{length_at, most_parties, most_sheet};
+ghost use Rattle.sheet.specs.Sizes.{length_at, most_parties, most_sheet, most_units};
 ghost use Rattle.sheet.specs.Lists.{from, all, within};
 ghost use Rattle.sheet.specs.Bytes.{num};
 ghost use Rattle.rules.specs.Check.{check_answer};
@@ -39,47 +39,21 @@ fn is_accepted(s: &[u8], len: usize) -> bool
     }
 }
 
-fn zeros_from(s: &[u8], start: usize) -> bool
-    ensures { result ≡ all (λ j. eqb (get_or s.now j 0) 0) (from start (length s.now - start)) }
-{
-    let mut j = start;
-    while j < s.len() {
-        if s[j] != 0 {
-            return false;
-        }
-        j += 1;
-    }
-    true
-}
-
 // The carried sheet is accepted, and the copy past it is zero.
 fn sheet_ok(sheet: &[u8; MOST_SHEET]) -> bool
     ensures { result ≡ carried_ok sheet.now }
 {
     let len = carried_length(sheet);
-    if !is_accepted(sheet, len) {
-        return false;
-    }
-    zeros_from(sheet, len)
+    is_accepted(sheet, len) && sheet[len..].iter().all(|b| *b == 0)
 }
 
-fn most_mark(u: usize, units: usize) -> u8
-    ensures { result ≡ cond (ltb u units) 2 0 }
-{
-    if u < units { Mark::HIGHER } else { Mark::EMPTY }
-}
-
+// The marks of the units are 0 to 2; past them they are zero.
 fn marks_ok(marks: &[u8; MOST_UNITS], units: usize) -> bool
+    requires { units ≤ most_units }
     ensures { result ≡ marks_ok units marks.now }
 {
-    let mut u = 0;
-    while u < MOST_UNITS {
-        if most_mark(u, units) < marks[u] {
-            return false;
-        }
-        u += 1;
-    }
-    true
+    marks[..units].iter().all(|m| *m <= Mark::HIGHER)
+        && marks[units..].iter().all(|m| *m == Mark::EMPTY)
 }
 
 fn most_published(n: usize, j: usize) -> usize
@@ -99,28 +73,17 @@ fn most_published(n: usize, j: usize) -> usize
 fn published_ok(published: &[u8; CELLS], n: usize) -> bool
     ensures { result ≡ published_ok n published.now }
 {
-    let mut j = 0;
-    while j < CELLS {
-        let most = most_published(n, j);
-        if most < bytes::size(published[j]) {
-            return false;
-        }
-        j += 1;
-    }
-    true
+    published
+        .iter()
+        .enumerate()
+        .all(|(j, c)| usize::from(*c) <= most_published(n, j))
 }
 
 fn proposals_ok(proposals: &[u32; MOST_PARTIES], n: usize) -> bool
+    requires { n ≤ most_parties }
     ensures { result ≡ proposals_ok n proposals.now }
 {
-    let mut j = n;
-    while j < MOST_PARTIES {
-        if proposals[j] != 0 {
-            return false;
-        }
-        j += 1;
-    }
-    true
+    proposals[n..].iter().all(|x| *x == 0)
 }
 
 fn is_within(lo: u8, hi: u8, x: u8) -> bool
@@ -285,16 +248,10 @@ fn parties_ok(n: u8, published: &[u8; CELLS], parties: [Party; MOST_PARTIES]) ->
     requires { n ≤ most_parties }
     ensures { result ≡ parties_ok n published.now parties }
 {
-    let mut i: u8 = 1;
-    while i <= LAST_PARTY {
-        let at = i as usize - 1;
-        let p = parties[at];
-        if !entry_ok(n, published, i, p) {
-            return false;
-        }
-        i += 1;
-    }
-    true
+    parties
+        .iter()
+        .zip(1..=LAST_PARTY)
+        .all(|(p, i)| entry_ok(n, published, i, *p))
 }
 
 // Every clause, of the parts of a session.

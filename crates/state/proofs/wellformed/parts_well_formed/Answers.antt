@@ -1,5 +1,5 @@
 -- An accepted sheet has the copy's header, so each test is that of the session's layout: a failed one settles the answer, and the last one is it.
-use Rattle.std.proofs.Common.{true, [], ◌∷◌, get_or}
+use Rattle.std.proofs.Common.{arith, true, [], ◌∷◌, get_or}
 use Rattle.sheet.specs.Bytes.{big}
 use mathlib.Core.Path.{◌≡◌, sym, ap, ◌∙◌}
 use Prim.Native.Nat.{ℕ, ◌≤◌}
@@ -29,6 +29,9 @@ module _ (s : Session) (e : carried_ok s.sheet ≡ true) where
   few : parties_of s.sheet ≤ 16
   few = most_parties_lem s.sheet accepted
 
+  fits : {n : ℕ} → n ≡ big (get_or s.sheet 6 0 ∷ get_or s.sheet 7 0 ∷ []) → n ≤ 1024
+  fits o = let most = accepted.before.before.before.header.units_most in omega (arith, units o)
+
 pub returns-then-not-marks_ok : goal.returns-then-not-marks_ok
 returns-then-not-marks_ok c =
     let a = c.args in
@@ -52,6 +55,16 @@ returns-then-not-proposals_ok c =
     let sheets = passed c.sheet_ok.ensures c.if-not-sheet_ok.false in
     let proposals = c.proposals_ok.ensures ∙ ap (λ (n : ℕ). proposals_ok n s.proposals) (count s sheets) in
     sym (fails (well_formed s) (λ t. failed _ (stopped proposals c.if-not-proposals_ok.true) ((passed_says s).0 t).proposals))
+
+pub marks_ok-requires : goal.marks_ok-requires
+marks_ok-requires c =
+    let a = c.args in
+    fits (of_parts a.sheet.now a.proposals.now a.marks.now a.published.now a.parties) (passed c.sheet_ok.ensures c.if-not-sheet_ok.false) c.two.ensures
+
+pub proposals_ok-requires : goal.proposals_ok-requires
+proposals_ok-requires c =
+    let a = c.args in
+    few (of_parts a.sheet.now a.proposals.now a.marks.now a.published.now a.parties) (passed c.sheet_ok.ensures c.if-not-sheet_ok.false)
 
 pub parties_ok-requires : goal.parties_ok-requires
 parties_ok-requires c =
