@@ -61,7 +61,7 @@ pub const MOST_STEPS: u16 = 1000;
 pub const CELLS: usize = MOST_PARTIES * MOST_PARTIES;
 
 // A party's entries.
-#[derive(Clone, Copy)]
+#[derive(Clone, Copy, Debug, PartialEq, Eq)]
 pub struct Party {
     pub status: u8,
     pub place: u8,

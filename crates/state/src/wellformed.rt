@@ -1,11 +1,11 @@
 // Whether a session is well formed: a function for each group of clauses.
 ghost use Rattle.std.specs.Prelude.{◌≡◌, cond, ◌+◌, ◌-◌, ◌/◌, ◌%◌, ◌≤◌, min, length, get_or, take, leb, ltb, eqb};
 ghost use Rattle.sheet.specs.Sizes.{length_at, most_parties, most_sheet, most_units};
-ghost use Rattle.sheet.specs.Lists.{from, all, within};
+ghost use Rattle.sheet.specs.Lists.{from, all};
 ghost use Rattle.sheet.specs.Bytes.{num};
 ghost use Rattle.rules.specs.Check.{check_answer};
 ghost use Rattle.state.specs.Session.{of_parts};
-ghost use Rattle.state.specs.WellFormed.{carried_ok, marks_ok, is_lower, published_ok, proposals_ok, same, round_ok, scan_ok, lower_ok, top_ok, idle_ok, unstarted_ok, decision_ok, status_ok, ranges_ok, party_ok, unused_ok, parties_ok, well_formed};
+ghost use Rattle.state.specs.WellFormed.{carried_ok, marks_ok, is_lower, published_ok, proposals_ok, round_ok, scan_ok, lower_ok, top_ok, idle_ok, unstarted_ok, decision_ok, status_ok, ranges_ok, party_ok, unused_ok, parties_ok, well_formed};
 
 use crate::kept::{CELLS, MOST_STEPS, Mark, Party, Place, Status, cell_of};
 use answers::Verdict;
@@ -56,27 +56,26 @@ fn marks_ok(marks: &[u8; MOST_UNITS], units: usize) -> bool
         && marks[units..].iter().all(|m| *m == Mark::EMPTY)
 }
 
-fn most_published(n: usize, j: usize) -> usize
+// The most that entry j of the published candidates may be: n at a round from 2 to n and a lower of it, else 0.
+fn most_published(n: u8, j: usize) -> u8
     ensures { result ≡ cond (is_lower n (j / most_parties + 1) (j % most_parties + 1)) n 0 }
 {
     let r = j / MOST_PARTIES + 1;
     let k = j % MOST_PARTIES + 1;
-    if r < 2 {
-        return 0;
+    if (2..=usize::from(n)).contains(&r) && k < r {
+        n
+    } else {
+        0
     }
-    if n < r {
-        return 0;
-    }
-    if k < r { n } else { 0 }
 }
 
-fn published_ok(published: &[u8; CELLS], n: usize) -> bool
+fn published_ok(published: &[u8; CELLS], n: u8) -> bool
     ensures { result ≡ published_ok n published.now }
 {
     published
         .iter()
         .enumerate()
-        .all(|(j, c)| usize::from(*c) <= most_published(n, j))
+        .all(|(j, c)| *c <= most_published(n, j))
 }
 
 fn proposals_ok(proposals: &[u32; MOST_PARTIES], n: usize) -> bool
@@ -86,159 +85,120 @@ fn proposals_ok(proposals: &[u32; MOST_PARTIES], n: usize) -> bool
     proposals[n..].iter().all(|x| *x == 0)
 }
 
-fn is_within(lo: u8, hi: u8, x: u8) -> bool
-    ensures { result ≡ within lo hi x }
-{
-    if lo <= x { x <= hi } else { false }
-}
-
-fn is_same(a: bool, b: bool) -> bool
-    ensures { result ≡ same a b }
-{
-    if a { b } else { !b }
-}
-
-// The round, by the place.
-fn round_ok(n: u8, i: u8, p: Party) -> bool
-    ensures { result ≡ round_ok n i p }
-{
-    let round = p.round;
-    if is_within(Place::PUBLISH, Place::FETCH, p.place) {
-        if !is_within(2, n, round) {
-            return false;
+impl Party {
+    // The round of party i of n, by the place.
+    fn round_ok(self, n: u8, i: u8) -> bool
+        ensures { result ≡ round_ok n i self }
+    {
+        if (Place::PUBLISH..=Place::FETCH).contains(&self.place) {
+            (2..=n).contains(&self.round) && i <= self.round
+        } else {
+            self.round == 0
         }
-        return i <= round;
     }
-    round == 0
-}
 
-// The scan number, by the place.
-fn scan_ok(p: Party) -> bool
-    ensures { result ≡ scan_ok p }
-{
-    let k = p.k;
-    if is_within(Place::READ_OWN, Place::FETCH, p.place) {
-        if k < 1 {
-            return false;
+    // The scan number, by the place.
+    fn scan_ok(self) -> bool
+        ensures { result ≡ scan_ok self }
+    {
+        if (Place::READ_OWN..=Place::FETCH).contains(&self.place) {
+            1 <= self.k && self.k < self.round
+        } else {
+            self.k == 0
         }
-        return k < p.round;
     }
-    k == 0
-}
 
-// Places 1 and 3 are a lower's.
-fn lower_ok(i: u8, p: Party) -> bool
-    ensures { result ≡ lower_ok i p }
-{
-    let place = p.place;
-    if place == Place::PUBLISH {
-        return i < p.round;
+    // Places 1 and 3 are a lower's.
+    fn lower_ok(self, i: u8) -> bool
+        ensures { result ≡ lower_ok i self }
+    {
+        match self.place {
+            Place::PUBLISH | Place::READ_TOP => i < self.round,
+            _ => true,
+        }
     }
-    if place == Place::READ_TOP {
-        return i < p.round;
+
+    // Place 6 is the top's, after a witness that has published.
+    fn top_ok(self, published: &[u8; CELLS], i: u8) -> bool
+        requires { self.place ≡ 6 → (self.round ≤ most_parties) × (self.k ≤ most_parties) }
+        ensures { result ≡ top_ok published.now i self }
+    {
+        self.place != Place::FETCH
+            || (i == self.round && published[cell_of(self.round, self.k)] != 0)
     }
-    true
-}
 
-// Place 6 is the top's, after a witness that has published.
-fn top_ok(published: &[u8; CELLS], i: u8, p: Party) -> bool
-    requires { p.place ≡ 6 → (p.round ≤ most_parties) × (p.k ≤ most_parties) }
-    ensures { result ≡ top_ok published.now i p }
-{
-    if p.place != Place::FETCH {
-        return true;
+    // Idle exactly at place 0, unless stopped.
+    fn idle_ok(self) -> bool
+        ensures { result ≡ idle_ok self }
+    {
+        self.status == Status::STOPPED
+            || (self.status == Status::IDLE) == (self.place == Place::ANNOUNCE)
     }
-    if i != p.round {
-        return false;
+
+    // No own steps at place 0.
+    fn unstarted_ok(self) -> bool
+        ensures { result ≡ unstarted_ok self }
+    {
+        self.place != Place::ANNOUNCE || self.steps == 0
     }
-    let at = cell_of(p.round, p.k);
-    published[at] != 0
-}
 
-// Idle exactly at place 0, unless stopped.
-fn idle_ok(p: Party) -> bool
-    ensures { result ≡ idle_ok p }
-{
-    if p.status == Status::STOPPED {
-        return true;
+    // The decision is zero unless decided.
+    fn decision_ok(self) -> bool
+        ensures { result ≡ decision_ok self }
+    {
+        self.status == Status::DECIDED || self.decision == 0
     }
-    is_same(p.status == Status::IDLE, p.place == Place::ANNOUNCE)
-}
 
-// No own steps at place 0.
-fn unstarted_ok(p: Party) -> bool
-    ensures { result ≡ unstarted_ok p }
-{
-    if p.place != Place::ANNOUNCE {
-        return true;
+    // Status, place, own steps and decision.
+    fn status_ok(self) -> bool
+        ensures { result ≡ status_ok self }
+    {
+        (self.status == Status::DECIDED) == (self.place == Place::DONE)
+            && self.idle_ok()
+            && self.unstarted_ok()
+            && self.decision_ok()
     }
-    p.steps == 0
-}
 
-// The decision is zero unless decided.
-fn decision_ok(p: Party) -> bool
-    ensures { result ≡ decision_ok p }
-{
-    if p.status == Status::DECIDED {
-        return true;
+    // The numbers of a party alone.
+    fn ranges_ok(self, n: u8) -> bool
+        ensures { result ≡ ranges_ok n self }
+    {
+        self.status <= Status::STOPPED
+            && self.place <= Place::DONE
+            && (1..=n).contains(&self.candidate)
+            && self.steps <= MOST_STEPS
     }
-    p.decision == 0
-}
 
-// Status, place, own steps and decision.
-fn status_ok(p: Party) -> bool
-    ensures { result ≡ status_ok p }
-{
-    is_same(p.status == Status::DECIDED, p.place == Place::DONE)
-        && idle_ok(p)
-        && unstarted_ok(p)
-        && decision_ok(p)
-}
+    // Party i of n.
+    fn party_ok(self, n: u8, published: &[u8; CELLS], i: u8) -> bool
+        requires { n ≤ most_parties }
+        ensures { result ≡ party_ok n published.now i self }
+    {
+        self.ranges_ok(n)
+            && self.round_ok(n, i)
+            && self.scan_ok()
+            && self.lower_ok(i)
+            && self.top_ok(published, i)
+            && self.status_ok()
+    }
 
-// The numbers of a party alone.
-fn ranges_ok(n: u8, p: Party) -> bool
-    ensures { result ≡ ranges_ok n p }
-{
-    p.status <= Status::STOPPED
-        && p.place <= Place::DONE
-        && is_within(1, n, p.candidate)
-        && p.steps <= MOST_STEPS
-}
+    // An entry past the parties.
+    fn unused_ok(self) -> bool
+        ensures { result ≡ unused_ok self }
+    {
+        self == Party::fresh(0)
+    }
 
-// Party i of n.
-fn party_ok(n: u8, published: &[u8; CELLS], i: u8, p: Party) -> bool
-    requires { n ≤ most_parties }
-    ensures { result ≡ party_ok n published.now i p }
-{
-    ranges_ok(n, p)
-        && round_ok(n, i, p)
-        && scan_ok(p)
-        && lower_ok(i, p)
-        && top_ok(published, i, p)
-        && status_ok(p)
-}
-
-// An entry past the parties.
-fn unused_ok(p: Party) -> bool
-    ensures { result ≡ unused_ok p }
-{
-    p.status == 0
-        && p.place == 0
-        && p.round == 0
-        && p.k == 0
-        && p.candidate == 0
-        && p.steps == 0
-        && p.decision == 0
-}
-
-fn entry_ok(n: u8, published: &[u8; CELLS], i: u8, p: Party) -> bool
-    requires { n ≤ most_parties }
-    ensures { result ≡ cond (leb i n) (party_ok n published.now i p) (unused_ok p) }
-{
-    if i <= n {
-        party_ok(n, published, i, p)
-    } else {
-        unused_ok(p)
+    // Entry i, where n parties are.
+    fn entry_ok(self, n: u8, published: &[u8; CELLS], i: u8) -> bool
+        requires { n ≤ most_parties }
+        ensures { result ≡ cond (leb i n) (party_ok n published.now i self) (unused_ok self) }
+    {
+        if i <= n {
+            self.party_ok(n, published, i)
+        } else {
+            self.unused_ok()
+        }
     }
 }
 
@@ -251,7 +211,7 @@ fn parties_ok(n: u8, published: &[u8; CELLS], parties: [Party; MOST_PARTIES]) ->
     parties
         .iter()
         .zip(1..=LAST_PARTY)
-        .all(|(p, i)| entry_ok(n, published, i, *p))
+        .all(|(p, i)| p.entry_ok(n, published, i))
 }
 
 // Every clause, of the parts of a session.
@@ -274,7 +234,7 @@ pub fn parts_well_formed<'a>(
     ) {
         return false;
     }
-    if !published_ok(published, n as usize) {
+    if !published_ok(published, n) {
         return false;
     }
     if !proposals_ok(proposals, n as usize) {
