@@ -5,5 +5,6 @@ pub mod Joins
 pub mod Carried
 pub mod FormWords
 pub mod Filled
+pub mod FromFn
 pub mod Copies
 pub mod Openings

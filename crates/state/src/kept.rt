@@ -1,5 +1,5 @@
 // What a session keeps.
-ghost use Rattle.std.specs.Prelude.{◌≡◌, ◌-◌, ◌<◌};
+ghost use Rattle.std.specs.Prelude.{◌≡◌};
 ghost use Rattle.state.specs.Session.{fresh_party, cell};
 
 use sheet::sizes::{MOST_PARTIES, MOST_SHEET, MOST_UNITS};
@@ -99,16 +99,9 @@ pub struct Session {
     pub parties: [Party; MOST_PARTIES],
 }
 
-fn less_one(x: u8) -> usize
-    ensures value { result ≡ x - 1 }
-    ensures upper_bound { result < 255 }
-{
-    if x == 0 { 0 } else { x as usize - 1 }
-}
-
 // Where the published candidate of a round and a lower stands.
 pub fn cell_of(round: u8, k: u8) -> usize
     ensures { result ≡ cell round k }
 {
-    MOST_PARTIES * less_one(round) + less_one(k)
+    MOST_PARTIES * usize::from(round.saturating_sub(1)) + usize::from(k.saturating_sub(1))
 }

@@ -19,13 +19,8 @@ use sheet::sizes::{
 pub fn carried_length(sheet: &[u8; MOST_SHEET]) -> usize
     ensures { result ≡ min (num sheet.now length_at 2) most_sheet }
 {
-    let s: &[u8] = sheet;
-    let field = bytes::two(s[LENGTH_AT], s[LENGTH_LOW_AT]) as usize;
-    if field < MOST_SHEET {
-        field
-    } else {
-        MOST_SHEET
-    }
+    let field = u16::from_be_bytes([sheet[LENGTH_AT], sheet[LENGTH_LOW_AT]]);
+    usize::from(field).min(MOST_SHEET)
 }
 
 // Whether the front of a slice is an accepted sheet.
@@ -237,7 +232,7 @@ pub fn parts_well_formed<'a>(
     if !published_ok(published, n) {
         return false;
     }
-    if !proposals_ok(proposals, n as usize) {
+    if !proposals_ok(proposals, usize::from(n)) {
         return false;
     }
     parties_ok(n, published, parties)

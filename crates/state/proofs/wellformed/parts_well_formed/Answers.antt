@@ -53,7 +53,7 @@ returns-then-not-proposals_ok c =
     let a = c.args in
     let s = of_parts a.sheet.now a.proposals.now a.marks.now a.published.now a.parties in
     let sheets = passed c.sheet_ok.ensures c.if-not-sheet_ok.false in
-    let proposals = c.proposals_ok.ensures ∙ ap (λ (n : ℕ). proposals_ok n s.proposals) (count s sheets) in
+    let proposals = c.proposals_ok.ensures ∙ ap (λ (n : ℕ). proposals_ok n s.proposals) (c.from.ensures ∙ count s sheets) in
     sym (fails (well_formed s) (λ t. failed _ (stopped proposals c.if-not-proposals_ok.true) ((passed_says s).0 t).proposals))
 
 pub marks_ok-requires : goal.marks_ok-requires
@@ -64,7 +64,7 @@ marks_ok-requires c =
 pub proposals_ok-requires : goal.proposals_ok-requires
 proposals_ok-requires c =
     let a = c.args in
-    few (of_parts a.sheet.now a.proposals.now a.marks.now a.published.now a.parties) (passed c.sheet_ok.ensures c.if-not-sheet_ok.false)
+    rw c.from.ensures (few (of_parts a.sheet.now a.proposals.now a.marks.now a.published.now a.parties) (passed c.sheet_ok.ensures c.if-not-sheet_ok.false))
 
 pub parties_ok-requires : goal.parties_ok-requires
 parties_ok-requires c =
@@ -78,7 +78,7 @@ returns c =
     let sheets = passed c.sheet_ok.ensures c.if-not-sheet_ok.false in
     let marks = c.marks_ok.ensures ∙ ap (λ (n : ℕ). marks_ok n s.marks) (units s sheets c.two.ensures) in
     let published = c.published_ok.ensures ∙ ap (λ (n : ℕ). published_ok n s.published) (count s sheets) in
-    let proposals = c.proposals_ok.ensures ∙ ap (λ (n : ℕ). proposals_ok n s.proposals) (count s sheets) in
+    let proposals = c.proposals_ok.ensures ∙ ap (λ (n : ℕ). proposals_ok n s.proposals) (c.from.ensures ∙ count s sheets) in
     c.parties_ok.ensures
     ∙ ap (λ (n : ℕ). parties_ok n s.published s.parties) (count s sheets)
     ∙ last _ (both (both (both sheets (passed marks c.if-not-marks_ok.false)) (passed published c.if-not-published_ok.false)) (passed proposals c.if-not-proposals_ok.false))
