@@ -1,11 +1,11 @@
 -- A list that is filled from the front: after j stores it has the first j elements of what it is filled with, and past them it is as it was.
-use Prim.Native.Nat.{ℕ, zero, suc, ◌+◌, ◌-◌, ◌<◌}
+use Prim.Native.Nat.{ℕ, ◌+◌, ◌-◌, ◌<◌}
 use mathlib.Core.Path.{◌≡◌, sym, ap, ◌∙◌}
 use mathlib.Core.List.{List, ◌++◌}
 use native.Mathlib.Nat.{zero-add}
 use native.Mathlib.Numerals.{add-one}
 use native.Mathlib.Omega.{arith}
-use lib.ListN.{length, get_or, set, drop, replicate, length-replicate}
+use lib.ListN.{length, get_or, set, replicate, length-replicate}
 use Rattle.std.proofs.lemmas.List.{drop-replicate}
 use lib.Seq.{paste, paste-zero, paste-suc, take-length}
 pub use Rattle.sheet.proofs.Ranges.{length_range, range_at}

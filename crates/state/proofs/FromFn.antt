@@ -1,5 +1,5 @@
 -- An array that a closure fills has at each place what the closure answers there, where no call changes the closure: by induction on the calls.
-use Rattle.std.proofs.Common.{◌≡◌, refl, sym, ◌∙◌, subst, ℕ, zero, suc, ◌+◌, ◌<◌, List, get_or, arith, add-zero}
+use Rattle.std.proofs.Common.{◌≡◌, refl, ◌∙◌, subst, ℕ, zero, suc, ◌+◌, ◌<◌, List, get_or, arith, add-zero}
 use Rattle.std.specs.Array.{IsFromFnResult, IsFromFnResultFrom}
 use denote.Param.Members.{Mut, Called}
 

@@ -199,9 +199,9 @@ impl Party {
 
 const LAST_PARTY: u8 = MOST_PARTIES as u8;
 
-fn parties_ok(n: u8, published: &[u8; CELLS], parties: [Party; MOST_PARTIES]) -> bool
+fn parties_ok(n: u8, published: &[u8; CELLS], parties: &[Party; MOST_PARTIES]) -> bool
     requires { n ≤ most_parties }
-    ensures { result ≡ parties_ok n published.now parties }
+    ensures { result ≡ parties_ok n published.now parties.now }
 {
     parties
         .iter()
@@ -235,5 +235,5 @@ pub fn parts_well_formed<'a>(
     if !proposals_ok(proposals, usize::from(n)) {
         return false;
     }
-    parties_ok(n, published, parties)
+    parties_ok(n, published, &parties)
 }

@@ -1,5 +1,4 @@
 -- The items are copied over the front, and the rest is as it was filled.
-use Rattle.std.proofs.Common.{rules}
 use Rattle.std.proofs.lemmas.List.{drop-replicate}
 use Rattle.state.proofs.opening.filled.Goals as goal
 

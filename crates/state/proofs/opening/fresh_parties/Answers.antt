@@ -1,5 +1,5 @@
 -- The entry at each place is the fresh party of the next number, or past the parties an unused one.
-use Rattle.std.proofs.Common.{◌≡◌, sym, ap, ◌∙◌, ℕ, ◌+◌, ◌-◌, ◌<◌, min, cond, ltb, List, length, get_or, arith, rules, tests}
+use Rattle.std.proofs.Common.{sym, ◌∙◌, ℕ, ◌+◌, cond, ltb, arith, rules, tests}
 use Rattle.std.proofs.lemmas.List.{ext_get_or}
 use Rattle.state.specs.Session.{fresh_party, no_party}
 use Rattle.state.specs.declared.kept.Party.{Party}

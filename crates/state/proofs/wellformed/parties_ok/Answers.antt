@@ -1,5 +1,5 @@
 -- The chain tests each entry with its number, counted from 1.
-use Rattle.std.proofs.Common.{◌≡◌, refl, sym, ◌∙◌, ap, ℕ, ◌+◌, ◌-◌, ◌<◌, Bool, cond, leb, List, length, get_or, min, arith, rules, tests}
+use Rattle.std.proofs.Common.{◌≡◌, sym, ◌∙◌, ap, ℕ, ◌+◌, ◌-◌, Bool, cond, leb, List, length, get_or, arith, rules, tests}
 use Rattle.std.proofs.lemmas.Iterator.{YieldsList-from_slice, YieldsList-from_zip}
 use Rattle.std.proofs.lemmas.Iterator.Consumers.{YieldsList-at}
 use Rattle.std.proofs.lemmas.Iterator.Search.{all_from_yields_List}
@@ -34,7 +34,7 @@ module _ (n : ℕ) (published : List ℕ) where
 pub returns : goal.returns
 returns c =
     let a = c.args in
-    let entries = YieldsList-at c.zip.ensures.first (YieldsList-from_slice a.parties c.iter.ensures.rest) in
+    let entries = YieldsList-at c.zip.ensures.first (YieldsList-from_slice a.parties.now c.iter.ensures.rest) in
     let numbers = YieldsList-at c.zip.ensures.second (YieldsList-from_inclusive 1 16 c.new.ensures.start (ap (λ (x : ℕ). x + 1) c.new.ensures.end) c.new.ensures.exhausted) in
     all_from_yields_List (entry_ok a.n a.published.now) c.all.new.self _ c.all.result c.all.ensures.ran (YieldsList-from_zip entries numbers) (λ x b q k. search (rules, tests))
-    ∙ numbered a.n a.published.now a.parties 16 (search rules)
+    ∙ numbered a.n a.published.now a.parties.now 16 (search rules)
