@@ -5,7 +5,7 @@ use Rattle.std.proofs.iter.runs.Sources.{nat_range_inclusive_steps}
 use Rattle.std.proofs.lemmas.Iterator.{YieldsList}
 use Rattle.std.proofs.lemmas.Iterator.Consumers.{YieldsList-from_shown}
 use Rattle.std.proofs.lemmas.List.FromFn.{length-range_with_len}
-use Rattle.std.specs.List.{list_all, range_with_len}
+use Rattle.std.specs.List.{fold, list_all, range_with_len}
 use Rattle.std.specs.Range.{range_inclusive_len, range_inclusive_start, range_inclusive_end, range_inclusive_exhausted}
 use Rattle.std.specs.declared.ops.RangeInclusive.{RangeInclusive}
 use Rattle.sheet.specs.Lists.{from, all}
@@ -49,11 +49,18 @@ in_parts f front size l =
     ∙ all_append f (from 0 front) (from (0 + front) (size - front))
     ∙ ap (λ (a : ℕ). all f (from 0 front) && all f (from a (size - front))) first
 
--- the entries of a list from a start on are zero
-pub zeros_listed : (xs : List ℕ) (start size : ℕ) → length xs ≡ size → start ≤ size
-    → list_all (λ x. eqb x 0) (take (size - start) (drop start xs)) ≡ all (λ j. eqb (get_or xs j 0) 0) (from start (size - start))
-zeros_listed xs start size whole l =
-    part_listed 0 (λ j. eqb (get_or xs j 0) 0) (λ x. eqb x 0) xs start (size - start) (omega arith) (λ j low high. refl)
+-- the entries of a list from a start on are zero, as a test says it
+pub zeros_listed : (t : ℕ → Bool) → ((x : ℕ) → eqb x 0 ≡ t x) → (xs : List ℕ) (start size : ℕ) → length xs ≡ size → start ≤ size
+    → list_all t (take (size - start) (drop start xs)) ≡ all (λ j. eqb (get_or xs j 0) 0) (from start (size - start))
+zeros_listed t e xs start size whole l =
+    part_listed 0 (λ j. eqb (get_or xs j 0) 0) t xs start (size - start) (omega arith) (λ j low high. e (get_or xs j 0))
+
+-- a fold that asks every entry
+pub folded : {A : Type 0} (t : A → Bool) (b : Bool) (xs : List A) → fold (λ ok x. ok && t x) b xs ≡ (b && list_all t xs)
+folded t true [] = refl
+folded t false [] = refl
+folded t true (x ∷ xs) = folded t (t x) xs
+folded t false (x ∷ xs) = folded t false xs
 
 -- ---- the numbers of `a..=b`, as a chain takes them
 

@@ -1,5 +1,6 @@
 // Whether a session is well formed: a function for each group of clauses.
 ghost use Rattle.std.specs.Prelude.{◌≡◌, cond, ◌+◌, ◌-◌, ◌/◌, ◌%◌, ◌≤◌, min, length, get_or, take, leb, ltb, eqb};
+ghost use Rattle.std.specs.List.{list_all};
 ghost use Rattle.sheet.specs.Sizes.{length_at, most_parties, most_sheet, most_units};
 ghost use Rattle.sheet.specs.Lists.{from, all};
 ghost use Rattle.sheet.specs.Bytes.{num};
@@ -14,6 +15,8 @@ use sheet::sizes::{
     LENGTH_AT, LENGTH_LOW_AT, MOST_PARTIES, MOST_SHEET, MOST_UNITS, PARTIES_AT, UNITS_AT,
     UNITS_LOW_AT,
 };
+
+const LAST_PARTY: u8 = MOST_PARTIES as u8;
 
 // How many bytes of the copy the carried sheet has.
 pub fn carried_length(sheet: &[u8; MOST_SHEET]) -> usize
@@ -34,12 +37,19 @@ fn is_accepted(s: &[u8], len: usize) -> bool
     }
 }
 
+// Whether each byte is at most this one. It asks every byte, with no early end, so that it compiles to vector code.
+fn are_at_most(bytes: &[u8], most: u8) -> bool
+    ensures { result ≡ list_all (λ x. leb x most) bytes.now }
+{
+    bytes.iter().fold(true, |ok, b| ok & (*b <= most))
+}
+
 // The carried sheet is accepted, and the copy past it is zero.
 fn sheet_ok(sheet: &[u8; MOST_SHEET]) -> bool
     ensures { result ≡ carried_ok sheet.now }
 {
     let len = carried_length(sheet);
-    is_accepted(sheet, len) && sheet[len..].iter().all(|b| *b == 0)
+    is_accepted(sheet, len) && are_at_most(&sheet[len..], 0)
 }
 
 // The marks of the units are 0 to 2; past them they are zero.
@@ -47,30 +57,26 @@ fn marks_ok(marks: &[u8; MOST_UNITS], units: usize) -> bool
     requires { units ≤ most_units }
     ensures { result ≡ marks_ok units marks.now }
 {
-    marks[..units].iter().all(|m| *m <= Mark::HIGHER)
-        && marks[units..].iter().all(|m| *m == Mark::EMPTY)
+    are_at_most(&marks[..units], Mark::HIGHER) && are_at_most(&marks[units..], Mark::EMPTY)
 }
 
 // The most that entry j of the published candidates may be: n at a round from 2 to n and a lower of it, else 0.
-fn most_published(n: u8, j: usize) -> u8
+fn most_published(n: u8, j: u8) -> u8
     ensures { result ≡ cond (is_lower n (j / most_parties + 1) (j % most_parties + 1)) n 0 }
 {
-    let r = j / MOST_PARTIES + 1;
-    let k = j % MOST_PARTIES + 1;
-    if (2..=usize::from(n)).contains(&r) && k < r {
-        n
-    } else {
-        0
-    }
+    let r = j / LAST_PARTY + 1;
+    let k = j % LAST_PARTY + 1;
+    if (2..=n).contains(&r) && k < r { n } else { 0 }
 }
 
+// It asks every entry, as `are_at_most` does, and counts them in bytes, which is faster.
 fn published_ok(published: &[u8; CELLS], n: u8) -> bool
     ensures { result ≡ published_ok n published.now }
 {
-    published
-        .iter()
-        .enumerate()
-        .all(|(j, c)| *c <= most_published(n, j))
+    published.iter().enumerate().fold(
+        true,
+        |ok, (j, c)| ok & (*c <= most_published(n, (j % CELLS) as u8)),
+    )
 }
 
 fn proposals_ok(proposals: &[u32; MOST_PARTIES], n: usize) -> bool
@@ -196,8 +202,6 @@ impl Party {
         }
     }
 }
-
-const LAST_PARTY: u8 = MOST_PARTIES as u8;
 
 fn parties_ok(n: u8, published: &[u8; CELLS], parties: &[Party; MOST_PARTIES]) -> bool
     requires { n ≤ most_parties }

@@ -17,32 +17,27 @@ module _ (marks : List ℕ) (units size : ℕ) (whole : length marks ≡ size) (
   unfolding mark_ok
   of_units = part_listed 0 mark_ok (λ x. leb x 2) marks 0 units (omega arith) (λ u low high. grind (arith, nat_tests))
 
-  past_units : list_all (λ x. eqb x 0) (take (size - units) (drop units marks)) ≡ all mark_ok (from units (size - units))
+  past_units : list_all (λ x. leb x 0) (take (size - units) (drop units marks)) ≡ all mark_ok (from units (size - units))
   unfolding mark_ok
-  past_units = part_listed 0 mark_ok (λ x. eqb x 0) marks units (size - units) (omega arith) (λ u low high. grind (arith, nat_tests))
+  past_units = part_listed 0 mark_ok (λ x. leb x 0) marks units (size - units) (omega arith) (λ u low high. grind (arith, nat_tests))
 
   parts : all (λ u. leb (get_or marks u 0) (cond (ltb u units) 2 0)) (from 0 size) ≡ (all mark_ok (from 0 units) && all mark_ok (from units (size - units)))
   unfolding mark_ok
   parts = in_parts mark_ok units size most
 
-pub returns-then-all : goal.returns-then-all
-returns-then-all c =
+pub returns-then-are_at_most : goal.returns-then-are_at_most
+returns-then-are_at_most c =
     let marks = c.args.marks.now in
     let units = c.args.units in
     let whole : length marks ≡ 1024 = search rules in
-    let front =
-    all_from_yields_List (λ x. leb x 2) _ _ c.all.result c.all.ensures.ran (YieldsList-from_slice _ c.iter.ensures.rest) (λ x b q k. search (rules, tests)) in
-    let back =
-    all_from_yields_List (λ x. eqb x 0) _ _ c.all-then-all.result c.all-then-all.ensures.ran (YieldsList-from_slice _ c.iter-then-all.ensures.rest) (λ x b q k. search (rules, tests)) in
-    and_then (front ∙ of_units marks units 1024 whole c.requires) c.if-all.true (back ∙ past_units marks units 1024 whole c.requires)
+    and_then (c.are_at_most.ensures ∙ of_units marks units 1024 whole c.requires) c.if-are_at_most.true
+    (c.are_at_most-then-are_at_most.ensures ∙ past_units marks units 1024 whole c.requires)
     ∙ sym (parts marks units 1024 whole c.requires)
 
-pub returns-else-all : goal.returns-else-all
-returns-else-all c =
+pub returns-else-are_at_most : goal.returns-else-are_at_most
+returns-else-are_at_most c =
     let marks = c.args.marks.now in
     let units = c.args.units in
     let whole : length marks ≡ 1024 = search rules in
-    let front =
-    all_from_yields_List (λ x. leb x 2) _ _ c.all.result c.all.ensures.ran (YieldsList-from_slice _ c.iter.ensures.rest) (λ x b q k. search (rules, tests)) in
-    and_else (front ∙ of_units marks units 1024 whole c.requires) _ c.if-all.false refl
+    and_else (c.are_at_most.ensures ∙ of_units marks units 1024 whole c.requires) _ c.if-are_at_most.false refl
     ∙ sym (parts marks units 1024 whole c.requires)

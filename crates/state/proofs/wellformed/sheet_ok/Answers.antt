@@ -1,7 +1,6 @@
 -- What is checked is the carried sheet: the front of the copy, as long as the carried sheet; past it the copy is asked for zeros.
-use Rattle.std.proofs.Common.{◌≡◌, refl, sym, ap, ◌∙◌, ℕ, ◌-◌, Bool, eqb, List, length, get_or, take, min, arith, rules, tests}
-use Rattle.std.proofs.lemmas.Iterator.{YieldsList-from_slice}
-use Rattle.std.proofs.lemmas.Iterator.Search.{all_from_yields_List}
+use Rattle.std.proofs.Common.{◌≡◌, refl, sym, ap, ◌∙◌, ℕ, ◌-◌, Bool, eqb, leb, List, length, get_or, take, min, arith, rules, tests}
+use Rattle.std.proofs.lemmas.Bool.Decides.{nat_tests}
 use Rattle.sheet.specs.Bytes.{num}
 use Rattle.sheet.specs.Lists.{from, all}
 use Rattle.rules.specs.Check.{check_answer}
@@ -22,9 +21,8 @@ returns-then-is_accepted c =
     let size = c.carried_length-len.result in
     let whole : length copy ≡ 1898 = search rules in
     let long : length (carried_of copy) ≡ size = length_carried copy 1898 size whole c.carried_length-len.ensures in
-    let zeros = all_from_yields_List (λ x. eqb x 0) _ _ c.all.result c.all.ensures.ran (YieldsList-from_slice _ c.iter.ensures.rest) (λ x b q k. search (rules, tests)) in
     and_then (asked copy size c.is_accepted.result whole c.carried_length-len.ensures c.is_accepted.ensures) c.if-is_accepted.true
-    (zeros ∙ zeros_listed copy size 1898 whole (omega arith)
+    (c.are_at_most.ensures ∙ zeros_listed (λ x. leb x 0) (λ x. grind (arith, nat_tests)) copy size 1898 whole (omega arith)
     ∙ ap (λ (n : ℕ). all (λ j. eqb (get_or copy j 0) 0) (from n (1898 - n))) (sym long))
 
 pub returns-else-is_accepted : goal.returns-else-is_accepted
