@@ -1,8 +1,6 @@
 -- The marks are tested in two parts: one of a unit is at most 2, and one past the units is zero.
-use Rattle.std.proofs.Common.{◌≡◌, refl, sym, ◌∙◌, ℕ, ◌-◌, ◌≤◌, Bool, ◌&&◌, cond, leb, ltb, eqb, List, length, get_or, take, drop, arith, rules, tests}
+use Rattle.std.proofs.Common.{◌≡◌, refl, sym, ◌∙◌, ℕ, ◌-◌, ◌≤◌, Bool, ◌&&◌, cond, leb, ltb, List, length, get_or, take, drop, arith, rules}
 use Rattle.std.proofs.lemmas.Bool.Decides.{nat_tests}
-use Rattle.std.proofs.lemmas.Iterator.{YieldsList-from_slice}
-use Rattle.std.proofs.lemmas.Iterator.Search.{all_from_yields_List}
 use Rattle.std.specs.List.{list_all}
 use Rattle.sheet.specs.Lists.{from, all}
 use Rattle.state.proofs.Tested.{and_then, and_else}

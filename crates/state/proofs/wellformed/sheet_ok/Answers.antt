@@ -1,5 +1,5 @@
 -- What is checked is the carried sheet: the front of the copy, as long as the carried sheet; past it the copy is asked for zeros.
-use Rattle.std.proofs.Common.{◌≡◌, refl, sym, ap, ◌∙◌, ℕ, ◌-◌, Bool, eqb, leb, List, length, get_or, take, min, arith, rules, tests}
+use Rattle.std.proofs.Common.{◌≡◌, refl, sym, ap, ◌∙◌, ℕ, ◌-◌, Bool, eqb, leb, List, length, get_or, take, min, arith, rules}
 use Rattle.std.proofs.lemmas.Bool.Decides.{nat_tests}
 use Rattle.sheet.specs.Bytes.{num}
 use Rattle.sheet.specs.Lists.{from, all}
