@@ -1,5 +1,5 @@
 // What a session keeps.
-ghost use Rattle.std.specs.Prelude.{◌≡◌, Some};
+ghost use Rattle.std.specs.Prelude.{◌≡◌, ◌++◌, Some, codes, decimal};
 ghost use Rattle.state.specs.Session.{fresh_party, cell};
 ghost use Rattle.state.specs.StatusNames.{number_of, word_of, Names};
 
@@ -80,6 +80,8 @@ impl fmt::Display for Status {
 }
 
 impl fmt::Display for UnknownStatus {
+    ghost output = { λ e. Some (codes "no status has number " ++ decimal e.0) };
+
     fn fmt<W: fmt::Write>(&self, f: &mut fmt::Formatter<W>) -> fmt::Result {
         write!(f, "no status has number {}", self.0)
     }
