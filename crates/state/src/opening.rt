@@ -7,7 +7,7 @@ ghost use Rattle.answers.specs.Answers.{answer_of};
 ghost use Rattle.state.specs.Session.{fresh_party, no_party, filled, fresh_session};
 ghost use Rattle.state.specs.Opening.{open_answer, opened};
 
-use crate::kept::{CELLS, Mark, Party, Session};
+use crate::kept::{CELLS, Party, Session};
 use answers::{Refusal, Verdict};
 use sheet::sizes::{MOST_PARTIES, MOST_SHEET, MOST_UNITS, PARTIES_AT};
 use std::array;
@@ -57,7 +57,7 @@ fn fresh_session(sheet: &[u8], proposals: &[u32], n: u8) -> Session
     Session {
         sheet: filled(sheet, 0),
         proposals: filled(proposals, 0),
-        marks: [Mark::EMPTY; MOST_UNITS],
+        marks: [0; MOST_UNITS],
         published: [0; CELLS],
         parties: fresh_parties(n),
     }
@@ -70,7 +70,7 @@ fn blank_session() -> Session
     Session {
         sheet: [0; MOST_SHEET],
         proposals: [0; MOST_PARTIES],
-        marks: [Mark::EMPTY; MOST_UNITS],
+        marks: [0; MOST_UNITS],
         published: [0; CELLS],
         parties: [Party::fresh(0); MOST_PARTIES],
     }
