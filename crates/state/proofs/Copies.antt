@@ -1,20 +1,16 @@
 -- A list that is filled from the front: after j stores it has the first j elements of what it is filled with, and past them it is as it was.
-use Prim.Native.Nat.{ℕ, zero, suc, ◌+◌, ◌-◌, ◌<◌}
+use Prim.Native.Nat.{ℕ, ◌+◌, ◌-◌, ◌<◌}
 use mathlib.Core.Path.{◌≡◌, sym, ap, ◌∙◌}
 use mathlib.Core.List.{List, ◌++◌}
-use native.Mathlib.Nat.{zero-add, sub-zero, zero-sub, suc-sub-suc}
+use native.Mathlib.Nat.{zero-add}
 use native.Mathlib.Numerals.{add-one}
 use native.Mathlib.Omega.{arith}
-use lib.ListN.{length, get_or, set, drop, replicate, length-replicate}
+use lib.ListN.{length, get_or, set, replicate, length-replicate}
+use Rattle.std.proofs.lemmas.List.{drop-replicate}
 use lib.Seq.{paste, paste-zero, paste-suc, take-length}
 pub use Rattle.sheet.proofs.Ranges.{length_range, range_at}
 
 module _ {A : Type 0} where
-  drop_replicate : (n j : ℕ) (a : A) → drop j (replicate n a) ≡ replicate (n - j) a
-  drop_replicate n zero a = ap (λ (k : ℕ). replicate k a) (sym (sub-zero n))
-  drop_replicate zero (suc j) a = ap (λ (k : ℕ). replicate k a) (sym (zero-sub (suc j)))
-  drop_replicate (suc n) (suc j) a = drop_replicate n j a ∙ ap (λ (k : ℕ). replicate k a) (sym (suc-sub-suc n j))
-
   module _ (size : ℕ) (a : A) (xs : List A) where
     -- of `size` times a, the first j are those of xs
     abbrev pub Front : List A → ℕ → Type 0
@@ -33,4 +29,4 @@ module _ {A : Type 0} where
         ∙ ap (paste base 0 xs) (sym (add-one j) ∙ sym o)
 
     pub front_end : (copy : List A) (j : ℕ) → j ≡ length xs → Front copy j → copy ≡ xs ++ replicate (size - length xs) a
-    front_end copy j l e = e ∙ ap (paste (replicate size a) 0 xs) l ∙ rw (zero-add, take-length, drop_replicate)
+    front_end copy j l e = e ∙ ap (paste (replicate size a) 0 xs) l ∙ rw (zero-add, take-length, drop-replicate)

@@ -2,6 +2,11 @@
 use Prim.Native.Nat.{ℕ, zero, suc, ◌+◌, ◌-◌, ◌≤◌, ◌<◌, min}
 use mathlib.Core.Path.{◌≡◌, refl, sym, ap, ◌∙◌, subst}
 use mathlib.Core.List.{List, ◌++◌, map}
+use mathlib.Core.Bool.{cond}
+use mathlib.Core.Logic.{◌⊎◌, inl, inr}
+use lib.Dec.{ltb}
+use borrow.Author.Tests.{lt-ltb, le-ltb}
+use Rattle.sheet.proofs.Folds.{lt_or_le}
 use native.Mathlib.Omega.{arith}
 use lib.ListN.{length, get_or, take, replicate, length-append, length-replicate, get_or-append}
 use lib.Seq.{take_all, take-append-le, take-append_seam, get_or-append-add}
@@ -50,11 +55,28 @@ fresh_parties n = map fresh_party (from 1 n) ++ replicate (16 - n) no_party
 pub fresh_taken : (n : ℕ) → n ≤ 16 → map fresh_party (from 1 (min n 16)) ++ replicate (16 - n) no_party ≡ fresh_parties n
 fresh_taken n l = ap (λ (k : ℕ). map fresh_party (from 1 k) ++ replicate (16 - n) no_party) (let e : min n 16 ≡ n = omega arith in e)
 
-pub fresh_length : (n : ℕ) → n ≤ 16 → length (fresh_parties n) ≡ 16
-fresh_length n l =
-    let both = length-append (map fresh_party (from 1 n)) (replicate (16 - n) no_party) in
+-- of any n, as many as there are at most
+pub fresh_long : (n : ℕ) → length (map fresh_party (from 1 (min n 16)) ++ replicate (16 - n) no_party) ≡ 16
+fresh_long n =
+    let both = length-append (map fresh_party (from 1 (min n 16))) (replicate (16 - n) no_party) in
     let rest = length-replicate (16 - n) no_party in
-    omega (arith, length_range fresh_party 1 n)
+    omega (arith, length_range fresh_party 1 (min n 16))
+
+pub fresh_at : (n k : ℕ) → k < 16 → get_or (map fresh_party (from 1 (min n 16)) ++ replicate (16 - n) no_party) k no_party ≡ cond (ltb k n) (fresh_party (k + 1)) no_party
+fresh_at n k l = go (lt_or_le k n)
+  where
+    go : (k < n) ⊎ (n ≤ k) → get_or (map fresh_party (from 1 (min n 16)) ++ replicate (16 - n) no_party) k no_party ≡ cond (ltb k n) (fresh_party (k + 1)) no_party
+    go (inl h) =
+        let e : 1 + k ≡ k + 1 = omega arith in
+        get_or-append (map fresh_party (from 1 (min n 16))) (replicate (16 - n) no_party) no_party k (omega (arith, length_range fresh_party 1 (min n 16)))
+        ∙ range_at fresh_party 1 (min n 16) k no_party (omega arith)
+        ∙ rw (lt-ltb k n h, e)
+    go (inr h) =
+        behind (map fresh_party (from 1 (min n 16))) (16 - n) k no_party (omega (arith, length_range fresh_party 1 (min n 16)))
+        ∙ rw (le-ltb k n h)
+
+pub fresh_length : (n : ℕ) → n ≤ 16 → length (fresh_parties n) ≡ 16
+fresh_length n l = ap length (sym (fresh_taken n l)) ∙ fresh_long n
 
 pub fresh_party_lem : (n i : ℕ) → 1 ≤ i → i ≤ n → party_of (fresh_parties n) i ≡ fresh_party i
 fresh_party_lem n i least most =

@@ -71,9 +71,6 @@ module _ (sheet proposals : List ℕ) where
   opened_at : Answer → Session
   opened_at a = cond (eqb a.number 0) (fresh_session sheet proposals (parties_of sheet)) (fresh_session [] [] 0)
 
-  pub opened_blank : eqb (open_answer sheet proposals).number 0 ≡ false → fresh_session [] [] 0 ≡ opened sheet proposals
-  opened_blank e = ap (λ (b : Bool). cond b (fresh_session sheet proposals (parties_of sheet)) (fresh_session [] [] 0)) (sym e)
-
   pub opened_fresh : open_answer sheet proposals ≡ done → fresh_session sheet proposals (parties_of sheet) ≡ opened sheet proposals
   unfolding opened_at
   opened_fresh e = ap opened_at (sym e)

@@ -3,6 +3,7 @@ pub mod Mark
 pub mod Status
 pub mod Place
 pub mod Sizes
+pub mod StatusNames
 pub mod Session
 pub mod Readings
 pub mod Opening

@@ -1,10 +1,13 @@
 // What a session keeps.
-ghost use Rattle.std.specs.Prelude.{◌≡◌, ◌-◌, ◌<◌};
+ghost use Rattle.std.specs.Prelude.{◌≡◌, ◌++◌, Some, codes, decimal};
 ghost use Rattle.state.specs.Session.{fresh_party, cell};
+ghost use Rattle.state.specs.StatusNames.{number_of, word_of, Names};
 
 use sheet::sizes::{MOST_PARTIES, MOST_SHEET, MOST_UNITS};
+use std::error::Error;
+use std::fmt;
 
-// A unit holds a mark.
+// A unit holds a mark: a byte of a session's bytes, which may be any, so the marks are numbers with names (document 01).
 #[derive(Clone, Copy)]
 pub struct Mark(pub u8);
 
@@ -16,21 +19,77 @@ impl Mark {
     pub const HIGHER: u8 = 2;
 }
 
-// How far a party has come.
-#[derive(Clone, Copy)]
-pub struct Status(pub u8);
-
-impl Status {
-    pub const IDLE: u8 = 0;
-
-    pub const RUNNING: u8 = 1;
-
-    pub const DECIDED: u8 = 2;
-
-    pub const STOPPED: u8 = 3;
+// How far a party has come. A party's entry holds the number, since a session's bytes may have any: `TryFrom` names it.
+#[derive(Clone, Copy, Debug, PartialEq, Eq)]
+pub enum Status {
+    Idle,
+    Running,
+    Decided,
+    Stopped,
 }
 
-// What a party's next step does.
+impl Status {
+    pub const IDLE: u8 = Status::Idle as u8;
+
+    pub const RUNNING: u8 = Status::Running as u8;
+
+    pub const DECIDED: u8 = Status::Decided as u8;
+
+    pub const STOPPED: u8 = Status::Stopped as u8;
+}
+
+// A number that no status has.
+#[derive(Clone, Copy, Debug, PartialEq, Eq)]
+pub struct UnknownStatus(pub u8);
+
+impl From<Status> for u8 {
+    ghost from_gives = { λ s n. n ≡ number_of s };
+
+    fn from(status: Status) -> u8 {
+        status as u8
+    }
+}
+
+impl TryFrom<u8> for Status {
+    type Error = UnknownStatus;
+
+    ghost try_from_gives = { Names };
+
+    fn try_from(number: u8) -> Result<Self, UnknownStatus> {
+        match number {
+            Status::IDLE => Ok(Status::Idle),
+            Status::RUNNING => Ok(Status::Running),
+            Status::DECIDED => Ok(Status::Decided),
+            Status::STOPPED => Ok(Status::Stopped),
+            _ => Err(UnknownStatus(number)),
+        }
+    }
+}
+
+impl fmt::Display for Status {
+    ghost output = { λ s. Some (word_of s) };
+
+    fn fmt<W: fmt::Write>(&self, f: &mut fmt::Formatter<W>) -> fmt::Result {
+        f.write_str(match self {
+            Status::Idle => "idle",
+            Status::Running => "running",
+            Status::Decided => "decided",
+            Status::Stopped => "stopped",
+        })
+    }
+}
+
+impl fmt::Display for UnknownStatus {
+    ghost output = { λ e. Some (codes "no status has number " ++ decimal e.0) };
+
+    fn fmt<W: fmt::Write>(&self, f: &mut fmt::Formatter<W>) -> fmt::Result {
+        write!(f, "no status has number {}", self.0)
+    }
+}
+
+impl Error for UnknownStatus {}
+
+// What a party's next step does: a number with a name, since a step matches on the place number (document 01).
 #[derive(Clone, Copy)]
 pub struct Place(pub u8);
 
@@ -61,7 +120,7 @@ pub const MOST_STEPS: u16 = 1000;
 pub const CELLS: usize = MOST_PARTIES * MOST_PARTIES;
 
 // A party's entries.
-#[derive(Clone, Copy)]
+#[derive(Clone, Copy, Debug, PartialEq, Eq)]
 pub struct Party {
     pub status: u8,
     pub place: u8,
@@ -99,16 +158,9 @@ pub struct Session {
     pub parties: [Party; MOST_PARTIES],
 }
 
-fn less_one(x: u8) -> usize
-    ensures value { result ≡ x - 1 }
-    ensures upper_bound { result < 255 }
-{
-    if x == 0 { 0 } else { x as usize - 1 }
-}
-
 // Where the published candidate of a round and a lower stands.
 pub fn cell_of(round: u8, k: u8) -> usize
     ensures { result ≡ cell round k }
 {
-    MOST_PARTIES * less_one(round) + less_one(k)
+    MOST_PARTIES * usize::from(round.saturating_sub(1)) + usize::from(k.saturating_sub(1))
 }

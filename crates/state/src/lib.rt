@@ -5,4 +5,4 @@ mod kept;
 pub mod opening;
 pub mod wellformed;
 
-pub use kept::{CELLS, MOST_STEPS, Mark, Party, Place, Session, Status, cell_of};
+pub use kept::{CELLS, MOST_STEPS, Mark, Party, Place, Session, Status, UnknownStatus, cell_of};

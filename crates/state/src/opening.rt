@@ -10,73 +10,49 @@ ghost use Rattle.state.specs.Opening.{open_answer, opened, session_given};
 use crate::kept::{CELLS, Party, Session};
 use answers::Refusal;
 use sheet::sizes::{MOST_PARTIES, MOST_SHEET, MOST_UNITS, PARTIES_AT};
+use std::array;
 
-fn sheet_copy(sheet: &[u8]) -> [u8; MOST_SHEET]
-    requires { length sheet.now ≤ most_sheet }
-    ensures { result ≡ filled most_sheet sheet.now }
+// The items, and behind them what fills up to N.
+fn filled<T: Copy, const N: usize>(items: &[T], filling: T) -> [T; N]
+    requires { length items.now ≤ N }
+    ensures { result ≡ items.now ++ replicate (N - length items.now) filling }
 {
-    let mut copy = [0u8; MOST_SHEET];
-    let mut j = 0;
-    while j < sheet.len() {
-        copy[j] = sheet[j];
-        j += 1;
-    }
+    let mut copy = [filling; N];
+    copy[..items.len()].copy_from_slice(items);
     copy
-}
-
-// As many as a session has entries for.
-fn at_most_16(count: usize) -> usize
-    ensures { result ≡ min count most_parties }
-{
-    if count < MOST_PARTIES {
-        count
-    } else {
-        MOST_PARTIES
-    }
 }
 
 // The first 16 proposals; where there are fewer, zeros behind them.
 pub fn proposals_copy(proposals: &[u32]) -> [u32; MOST_PARTIES]
     ensures { result ≡ filled most_parties (take most_parties proposals.now) }
 {
-    let count = at_most_16(proposals.len());
-    let mut copy = [0u32; MOST_PARTIES];
-    let mut j = 0;
-    while j < count {
-        copy[j] = proposals[j];
-        j += 1;
-    }
-    copy
+    let count = proposals.len().min(MOST_PARTIES);
+    filled(&proposals[..count], 0)
 }
 
 // Fresh parties 1 to n, at most 16, and unused entries behind them.
 pub fn fresh_parties(n: u8) -> [Party; MOST_PARTIES]
     ensures { result ≡ map fresh_party (from 1 (min n most_parties)) ++ replicate (most_parties - n) no_party }
 {
-    let count = at_most_16(n as usize);
-    let none = Party::fresh(0);
-    let mut parties = [none; MOST_PARTIES];
-    let mut at = 0;
-    while at < count {
-        parties[at] = Party::fresh(at as u8 + 1);
-        at += 1;
-    }
-    parties
+    array::from_fn(|at| {
+        if at < usize::from(n) {
+            Party::fresh(at as u8 + 1)
+        } else {
+            Party::fresh(0)
+        }
+    })
 }
 
 fn fresh_session(sheet: &[u8], proposals: &[u32], n: u8) -> Session
     requires { (length sheet.now ≤ most_sheet) × (length proposals.now ≤ most_parties) × (n ≤ most_parties) }
     ensures { result ≡ fresh_session sheet.now proposals.now n }
 {
-    let copy = sheet_copy(sheet);
-    let kept = proposals_copy(proposals);
-    let parties = fresh_parties(n);
     Session {
-        sheet: copy,
-        proposals: kept,
+        sheet: filled(sheet, 0),
+        proposals: filled(proposals, 0),
         marks: [0; MOST_UNITS],
         published: [0; CELLS],
-        parties,
+        parties: fresh_parties(n),
     }
 }
 
@@ -85,13 +61,12 @@ impl Session {
     pub fn blank() -> Self
         ensures { result ≡ fresh_session [] [] 0 }
     {
-        let none = Party::fresh(0);
         Session {
             sheet: [0; MOST_SHEET],
             proposals: [0; MOST_PARTIES],
             marks: [0; MOST_UNITS],
             published: [0; CELLS],
-            parties: [none; MOST_PARTIES],
+            parties: [Party::fresh(0); MOST_PARTIES],
         }
     }
 }

@@ -1,29 +1,26 @@
 // Whether a session is well formed: a function for each group of clauses.
 ghost use Rattle.std.specs.Prelude.{◌≡◌, ◌&&◌, cond, ◌+◌, ◌-◌, ◌/◌, ◌%◌, ◌≤◌, min, length, get_or, take, leb, ltb, eqb};
-ghost use Rattle.sheet.specs.Sizes.{length_at, most_parties, most_sheet};
-ghost use Rattle.sheet.specs.Lists.{from, all, within};
+ghost use Rattle.std.specs.List.{list_all};
+ghost use Rattle.sheet.specs.Sizes.{length_at, most_parties, most_sheet, most_units};
+ghost use Rattle.sheet.specs.Lists.{from, all};
 ghost use Rattle.sheet.specs.Bytes.{num};
 ghost use Rattle.rules.specs.Check.{check_answer};
-ghost use Rattle.state.specs.WellFormed.{carried_ok, marks_ok, is_lower, published_ok, proposals_ok, same, round_ok, scan_ok, lower_ok, top_ok, idle_ok, unstarted_ok, decision_ok, status_ok, ranges_ok, party_ok, unused_ok, parties_ok, well_formed};
+ghost use Rattle.state.specs.WellFormed.{carried_ok, marks_ok, is_lower, published_ok, proposals_ok, round_ok, scan_ok, lower_ok, top_ok, idle_ok, unstarted_ok, decision_ok, status_ok, ranges_ok, party_ok, unused_ok, parties_ok, well_formed};
 
 use crate::kept::{CELLS, MOST_STEPS, Mark, Party, Place, Session, Status, cell_of};
-use sheet::bytes;
 use sheet::sizes::{
     LENGTH_AT, LENGTH_LOW_AT, MOST_PARTIES, MOST_SHEET, MOST_UNITS, PARTIES_AT, UNITS_AT,
     UNITS_LOW_AT,
 };
 
+const LAST_PARTY: u8 = MOST_PARTIES as u8;
+
 // How many bytes of the copy the carried sheet has.
 pub fn carried_length(sheet: &[u8; MOST_SHEET]) -> usize
     ensures { result ≡ min (num sheet.now length_at 2) most_sheet }
 {
-    let s: &[u8] = sheet;
-    let field = bytes::two(s[LENGTH_AT], s[LENGTH_LOW_AT]) as usize;
-    if field < MOST_SHEET {
-        field
-    } else {
-        MOST_SHEET
-    }
+    let field = u16::from_be_bytes([sheet[LENGTH_AT], sheet[LENGTH_LOW_AT]]);
+    usize::from(field).min(MOST_SHEET)
 }
 
 // Whether the front of a slice is an accepted sheet.
@@ -34,17 +31,11 @@ fn is_accepted(s: &[u8], len: usize) -> bool
     rules::check(&s[..len]).is_ok()
 }
 
-fn zeros_from(s: &[u8], start: usize) -> bool
-    ensures { result ≡ all (λ j. eqb (get_or s.now j 0) 0) (from start (length s.now - start)) }
+// Whether each byte is at most this one. It asks every byte, with no early end, so that it compiles to vector code.
+fn are_at_most(bytes: &[u8], most: u8) -> bool
+    ensures { result ≡ list_all (λ x. leb x most) bytes.now }
 {
-    let mut j = start;
-    while j < s.len() {
-        if s[j] != 0 {
-            return false;
-        }
-        j += 1;
-    }
-    true
+    bytes.iter().fold(true, |ok, b| ok & (*b <= most))
 }
 
 // The carried sheet is accepted, and the copy past it is zero.
@@ -52,256 +43,180 @@ fn sheet_ok(sheet: &[u8; MOST_SHEET]) -> bool
     ensures { result ≡ carried_ok sheet.now }
 {
     let len = carried_length(sheet);
-    if !is_accepted(sheet, len) {
-        return false;
-    }
-    zeros_from(sheet, len)
+    is_accepted(sheet, len) && are_at_most(&sheet[len..], 0)
 }
 
-fn most_mark(u: usize, units: usize) -> u8
-    ensures { result ≡ cond (ltb u units) 2 0 }
-{
-    if u < units { Mark::HIGHER } else { Mark::EMPTY }
-}
-
+// The marks of the units are 0 to 2; past them they are zero.
 fn marks_ok(marks: &[u8; MOST_UNITS], units: usize) -> bool
+    requires { units ≤ most_units }
     ensures { result ≡ marks_ok units marks.now }
 {
-    let mut u = 0;
-    while u < MOST_UNITS {
-        if most_mark(u, units) < marks[u] {
-            return false;
-        }
-        u += 1;
-    }
-    true
+    are_at_most(&marks[..units], Mark::HIGHER) && are_at_most(&marks[units..], Mark::EMPTY)
 }
 
-fn most_published(n: usize, j: usize) -> usize
+// The most that entry j of the published candidates may be: n at a round from 2 to n and a lower of it, else 0.
+fn most_published(n: u8, j: u8) -> u8
     ensures { result ≡ cond (is_lower n (j / most_parties + 1) (j % most_parties + 1)) n 0 }
 {
-    let r = j / MOST_PARTIES + 1;
-    let k = j % MOST_PARTIES + 1;
-    if r < 2 {
-        return 0;
-    }
-    if n < r {
-        return 0;
-    }
-    if k < r { n } else { 0 }
+    let r = j / LAST_PARTY + 1;
+    let k = j % LAST_PARTY + 1;
+    if (2..=n).contains(&r) && k < r { n } else { 0 }
 }
 
-fn published_ok(published: &[u8; CELLS], n: usize) -> bool
+// It asks every entry, as `are_at_most` does, and counts them in bytes, which is faster.
+fn published_ok(published: &[u8; CELLS], n: u8) -> bool
     ensures { result ≡ published_ok n published.now }
 {
-    let mut j = 0;
-    while j < CELLS {
-        let most = most_published(n, j);
-        if most < bytes::size(published[j]) {
-            return false;
-        }
-        j += 1;
-    }
-    true
+    published.iter().enumerate().fold(
+        true,
+        |ok, (j, c)| ok & (*c <= most_published(n, (j % CELLS) as u8)),
+    )
 }
 
 fn proposals_ok(proposals: &[u32; MOST_PARTIES], n: usize) -> bool
+    requires { n ≤ most_parties }
     ensures { result ≡ proposals_ok n proposals.now }
 {
-    let mut j = n;
-    while j < MOST_PARTIES {
-        if proposals[j] != 0 {
-            return false;
+    proposals[n..].iter().all(|x| *x == 0)
+}
+
+impl Party {
+    // The round of party i of n, by the place.
+    fn round_ok(self, n: u8, i: u8) -> bool
+        ensures { result ≡ round_ok n i self }
+    {
+        if (Place::PUBLISH..=Place::FETCH).contains(&self.place) {
+            (2..=n).contains(&self.round) && i <= self.round
+        } else {
+            self.round == 0
         }
-        j += 1;
     }
-    true
-}
 
-fn is_within(lo: u8, hi: u8, x: u8) -> bool
-    ensures { result ≡ within lo hi x }
-{
-    if lo <= x { x <= hi } else { false }
-}
-
-fn is_same(a: bool, b: bool) -> bool
-    ensures { result ≡ same a b }
-{
-    if a { b } else { !b }
-}
-
-// The round, by the place.
-fn round_ok(n: u8, i: u8, p: Party) -> bool
-    ensures { result ≡ round_ok n i p }
-{
-    let round = p.round;
-    if is_within(Place::PUBLISH, Place::FETCH, p.place) {
-        if !is_within(2, n, round) {
-            return false;
+    // The scan number, by the place.
+    fn scan_ok(self) -> bool
+        ensures { result ≡ scan_ok self }
+    {
+        if (Place::READ_OWN..=Place::FETCH).contains(&self.place) {
+            1 <= self.k && self.k < self.round
+        } else {
+            self.k == 0
         }
-        return i <= round;
     }
-    round == 0
-}
 
-// The scan number, by the place.
-fn scan_ok(p: Party) -> bool
-    ensures { result ≡ scan_ok p }
-{
-    let k = p.k;
-    if is_within(Place::READ_OWN, Place::FETCH, p.place) {
-        if k < 1 {
-            return false;
+    // Places 1 and 3 are a lower's.
+    fn lower_ok(self, i: u8) -> bool
+        ensures { result ≡ lower_ok i self }
+    {
+        match self.place {
+            Place::PUBLISH | Place::READ_TOP => i < self.round,
+            _ => true,
         }
-        return k < p.round;
     }
-    k == 0
+
+    // Place 6 is the top's, after a witness that has published.
+    fn top_ok(self, published: &[u8; CELLS], i: u8) -> bool
+        requires { self.place ≡ 6 → (self.round ≤ most_parties) × (self.k ≤ most_parties) }
+        ensures { result ≡ top_ok published.now i self }
+    {
+        self.place != Place::FETCH
+            || (i == self.round && published[cell_of(self.round, self.k)] != 0)
+    }
+
+    // Idle exactly at place 0, unless stopped.
+    fn idle_ok(self) -> bool
+        ensures { result ≡ idle_ok self }
+    {
+        self.status == Status::STOPPED
+            || (self.status == Status::IDLE) == (self.place == Place::ANNOUNCE)
+    }
+
+    // No own steps at place 0.
+    fn unstarted_ok(self) -> bool
+        ensures { result ≡ unstarted_ok self }
+    {
+        self.place != Place::ANNOUNCE || self.steps == 0
+    }
+
+    // The decision is zero unless decided.
+    fn decision_ok(self) -> bool
+        ensures { result ≡ decision_ok self }
+    {
+        self.status == Status::DECIDED || self.decision == 0
+    }
+
+    // Status, place, own steps and decision.
+    fn status_ok(self) -> bool
+        ensures { result ≡ status_ok self }
+    {
+        (self.status == Status::DECIDED) == (self.place == Place::DONE)
+            && self.idle_ok()
+            && self.unstarted_ok()
+            && self.decision_ok()
+    }
+
+    // The numbers of a party alone.
+    fn ranges_ok(self, n: u8) -> bool
+        ensures { result ≡ ranges_ok n self }
+    {
+        self.status <= Status::STOPPED
+            && self.place <= Place::DONE
+            && (1..=n).contains(&self.candidate)
+            && self.steps <= MOST_STEPS
+    }
+
+    // Party i of n.
+    fn party_ok(self, n: u8, published: &[u8; CELLS], i: u8) -> bool
+        requires { n ≤ most_parties }
+        ensures { result ≡ party_ok n published.now i self }
+    {
+        self.ranges_ok(n)
+            && self.round_ok(n, i)
+            && self.scan_ok()
+            && self.lower_ok(i)
+            && self.top_ok(published, i)
+            && self.status_ok()
+    }
+
+    // An entry past the parties.
+    fn unused_ok(self) -> bool
+        ensures { result ≡ unused_ok self }
+    {
+        self == Party::fresh(0)
+    }
+
+    // Entry i, where n parties are.
+    fn entry_ok(self, n: u8, published: &[u8; CELLS], i: u8) -> bool
+        requires { n ≤ most_parties }
+        ensures { result ≡ cond (leb i n) (party_ok n published.now i self) (unused_ok self) }
+    {
+        if i <= n {
+            self.party_ok(n, published, i)
+        } else {
+            self.unused_ok()
+        }
+    }
 }
 
-// Places 1 and 3 are a lower's.
-fn lower_ok(i: u8, p: Party) -> bool
-    ensures { result ≡ lower_ok i p }
-{
-    let place = p.place;
-    if place == Place::PUBLISH {
-        return i < p.round;
-    }
-    if place == Place::READ_TOP {
-        return i < p.round;
-    }
-    true
-}
-
-// Place 6 is the top's, after a witness that has published.
-fn top_ok(published: &[u8; CELLS], i: u8, p: Party) -> bool
-    requires { p.place ≡ 6 → (p.round ≤ most_parties) × (p.k ≤ most_parties) }
-    ensures { result ≡ top_ok published.now i p }
-{
-    if p.place != Place::FETCH {
-        return true;
-    }
-    if i != p.round {
-        return false;
-    }
-    let at = cell_of(p.round, p.k);
-    published[at] != 0
-}
-
-// Idle exactly at place 0, unless stopped.
-fn idle_ok(p: Party) -> bool
-    ensures { result ≡ idle_ok p }
-{
-    if p.status == Status::STOPPED {
-        return true;
-    }
-    is_same(p.status == Status::IDLE, p.place == Place::ANNOUNCE)
-}
-
-// No own steps at place 0.
-fn unstarted_ok(p: Party) -> bool
-    ensures { result ≡ unstarted_ok p }
-{
-    if p.place != Place::ANNOUNCE {
-        return true;
-    }
-    p.steps == 0
-}
-
-// The decision is zero unless decided.
-fn decision_ok(p: Party) -> bool
-    ensures { result ≡ decision_ok p }
-{
-    if p.status == Status::DECIDED {
-        return true;
-    }
-    p.decision == 0
-}
-
-// Status, place, own steps and decision.
-fn status_ok(p: Party) -> bool
-    ensures { result ≡ status_ok p }
-{
-    is_same(p.status == Status::DECIDED, p.place == Place::DONE)
-        && idle_ok(p)
-        && unstarted_ok(p)
-        && decision_ok(p)
-}
-
-// The numbers of a party alone.
-fn ranges_ok(n: u8, p: Party) -> bool
-    ensures { result ≡ ranges_ok n p }
-{
-    p.status <= Status::STOPPED
-        && p.place <= Place::DONE
-        && is_within(1, n, p.candidate)
-        && p.steps <= MOST_STEPS
-}
-
-// Party i of n.
-fn party_ok(n: u8, published: &[u8; CELLS], i: u8, p: Party) -> bool
+fn parties_ok(n: u8, published: &[u8; CELLS], parties: &[Party; MOST_PARTIES]) -> bool
     requires { n ≤ most_parties }
-    ensures { result ≡ party_ok n published.now i p }
+    ensures { result ≡ parties_ok n published.now parties.now }
 {
-    ranges_ok(n, p)
-        && round_ok(n, i, p)
-        && scan_ok(p)
-        && lower_ok(i, p)
-        && top_ok(published, i, p)
-        && status_ok(p)
-}
-
-// An entry past the parties.
-fn unused_ok(p: Party) -> bool
-    ensures { result ≡ unused_ok p }
-{
-    p.status == 0
-        && p.place == 0
-        && p.round == 0
-        && p.k == 0
-        && p.candidate == 0
-        && p.steps == 0
-        && p.decision == 0
-}
-
-fn entry_ok(n: u8, published: &[u8; CELLS], i: u8, p: Party) -> bool
-    requires { n ≤ most_parties }
-    ensures { result ≡ cond (leb i n) (party_ok n published.now i p) (unused_ok p) }
-{
-    if i <= n {
-        party_ok(n, published, i, p)
-    } else {
-        unused_ok(p)
-    }
-}
-
-const LAST_PARTY: u8 = MOST_PARTIES as u8;
-
-fn parties_ok(n: u8, published: &[u8; CELLS], parties: [Party; MOST_PARTIES]) -> bool
-    requires { n ≤ most_parties }
-    ensures { result ≡ parties_ok n published.now parties }
-{
-    let mut i: u8 = 1;
-    while i <= LAST_PARTY {
-        let at = i as usize - 1;
-        let p = parties[at];
-        if !entry_ok(n, published, i, p) {
-            return false;
-        }
-        i += 1;
-    }
-    true
+    parties
+        .iter()
+        .zip(1..=LAST_PARTY)
+        .all(|(p, i)| p.entry_ok(n, published, i))
 }
 
 impl Session {
     // The clauses of marks, published candidates, proposals and parties, on a sheet of n parties and so many units.
     fn contents_ok(&self, n: u8, units: u16) -> bool
-        requires { n ≤ most_parties }
+        requires { (n ≤ most_parties) × (units ≤ most_units) }
         ensures { result ≡ (marks_ok units self.now.marks && published_ok n self.now.published && proposals_ok n self.now.proposals && parties_ok n self.now.published self.now.parties) }
     {
         marks_ok(&self.marks, units as usize)
-            && published_ok(&self.published, n as usize)
+            && published_ok(&self.published, n)
             && proposals_ok(&self.proposals, n as usize)
-            && parties_ok(n, &self.published, self.parties)
+            && parties_ok(n, &self.published, &self.parties)
     }
 
     // Whether every clause holds.

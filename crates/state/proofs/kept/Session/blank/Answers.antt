@@ -9,5 +9,5 @@ returns c = λ i.
       proposals = replicate 16 0;
       marks = replicate 1024 0;
       published = replicate 256 0;
-      parties = replicate 16 (c.fresh-none.ensures i);
+      parties = replicate 16 (c.fresh.ensures i);
     }

@@ -1,5 +1,5 @@
 -- An accepted sheet has the copy's header, so each test is that of the session's layout: a failed one settles the answer, and the last one is it.
-use Rattle.std.proofs.Common.{Bool, ◌&&◌, true, [], ◌∷◌, get_or}
+use Rattle.std.proofs.Common.{arith, Bool, ◌&&◌, true, [], ◌∷◌, get_or}
 use Rattle.std.specs.Int.{w16, from_be_bytes}
 use Rattle.sheet.proofs.Endian.{big_2}
 use mathlib.Core.Path.{◌≡◌, sym, ◌∙◌}
@@ -35,7 +35,11 @@ behind : {a : Bool} (b c d e : Bool) → a ≡ true → (b && c && d && e) ≡ (
 behind b c d e t = rw t
 
 pub contents_ok-requires : goal.contents_ok-requires
-contents_ok-requires c = few c.args.self.now (passed c.sheet_ok.ensures c.if-not-sheet_ok.false)
+contents_ok-requires c =
+    let s = c.args.self.now in
+    let sheet = passed c.sheet_ok.ensures c.if-not-sheet_ok.false in
+    let most = (accepted s sheet).before.before.before.header.units_most in
+    (few s sheet, omega (arith, units s sheet c.from_be_bytes-units.ensures, most))
 
 pub returns : goal.returns
 returns c =
