@@ -1,7 +1,7 @@
 // What a session keeps.
 ghost use Rattle.std.specs.Prelude.{◌≡◌, ◌++◌, Some, codes, decimal};
 ghost use Rattle.state.specs.Session.{fresh_party, cell};
-ghost use Rattle.state.specs.StatusNames.{number_of, word_of, Names};
+ghost use Rattle.state.specs.StatusNames.{word_of, Names};
 
 use sheet::sizes::{MOST_PARTIES, MOST_SHEET, MOST_UNITS};
 use std::error::Error;
@@ -41,14 +41,6 @@ impl Status {
 // A number that no status has.
 #[derive(Clone, Copy, Debug, PartialEq, Eq)]
 pub struct UnknownStatus(pub u8);
-
-impl From<Status> for u8 {
-    ghost from_gives = { λ s n. n ≡ number_of s };
-
-    fn from(status: Status) -> u8 {
-        status as u8
-    }
-}
 
 impl TryFrom<u8> for Status {
     type Error = UnknownStatus;
