@@ -8,3 +8,4 @@ pub mod Filled
 pub mod FromFn
 pub mod Copies
 pub mod Openings
+pub mod Statuses

@@ -1,6 +1,6 @@
 -- An opening is decided by two tests in turn: whether the sheet is accepted, and whether there is a proposal for each party.
 use Prim.Native.Nat.{ℕ}
-use mathlib.Core.Path.{◌≡◌, refl, sym, ap}
+use mathlib.Core.Path.{◌≡◌, refl, sym, ap, ◌∙◌}
 use mathlib.Core.List.{List, []}
 use mathlib.Core.Bool.{Bool, true, false, cond}
 use mathlib.Core.Logic.{◌≢◌}
@@ -9,11 +9,15 @@ use borrow.Author.Tests.{eq-eqb, ne_eqb, eqb-true, eqb-false}
 use lib.Dec.{T, eqb}
 use lib.ListN.{length}
 use Rattle.sheet.specs.Rows.{parties_of}
-use Rattle.answers.specs.Answers.{Answer, answer, done}
+use Rattle.std.specs.Prelude.{Result, Ok, Err}
+use Rattle.answers.specs.Answers.{Answer, answer, done, answer_of}
+use Rattle.answers.specs.declared.Refusal.{Refusal}
+use Rattle.answers.proofs.Refused.{refuses}
+use Rattle.answers.proofs.Theorems.{one_answer}
 use Rattle.rules.specs.Check.{check_answer}
 use Rattle.rules.specs.Words.{Rules6}
 use Rattle.state.specs.Session.{fresh_session}
-use Rattle.state.specs.Opening.{open_answer, opened}
+use Rattle.state.specs.Opening.{open_answer, opened, session_given}
 use Rattle.state.specs.declared.kept.Session.{Session}
 use Rattle.state.proofs.FormWords.{accepted_says}
 
@@ -74,3 +78,10 @@ module _ (sheet proposals : List ℕ) where
   pub opened_fresh : open_answer sheet proposals ≡ done → fresh_session sheet proposals (parties_of sheet) ≡ opened sheet proposals
   unfolding opened_at
   opened_fresh e = ap opened_at (sym e)
+
+-- any two results that the promise of an open permits are equal: the answer tells which of the two cases it is, and each has one result
+pub one_opening : (t : Answer) (s : Session) (a b : Result Session Refusal) → answer_of a ≡ t → answer_of b ≡ t → session_given a ≡ s → session_given b ≡ s → a ≡ b
+one_opening t s (Ok u) (Ok v) e o f g = ap Ok (f ∙ sym g)
+one_opening t s (Ok u) (Err r) e o f g = absurd (omega (arith, refuses r, ap (λ (x : Answer). x.number) (e ∙ sym o)))
+one_opening t s (Err r) (Ok v) e o f g = absurd (omega (arith, refuses r, ap (λ (x : Answer). x.number) (o ∙ sym e)))
+one_opening t s (Err r) (Err q) e o f g = cc (one_answer t (Err r) (Err q) e o)
