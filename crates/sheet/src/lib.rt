@@ -3,5 +3,5 @@
 
 pub mod bytes;
 pub mod rows;
-pub mod sets;
+mod sets;
 pub mod sizes;
