@@ -1,6 +1,6 @@
 -- The rows that are read of a sheet with right lengths are its slots, each with its row, so what is asked of them one after the other is asked of the slots: inductions over the rows
 -- that are left, where the next one is at place k.
-use Prim.Native.Nat.{ℕ, zero, suc, ◌+◌, ◌-◌, ◌*◌, ◌≤◌, ◌<◌, min}
+use Prim.Native.Nat.{ℕ, zero, suc, ◌+◌, ◌-◌, ◌≤◌, ◌<◌, min}
 use mathlib.Core.Path.{◌≡◌, refl, sym, ap, ap₂, subst, ◌∙◌}
 use mathlib.Core.List.{List, [], ◌∷◌, map}
 use mathlib.Core.Bool.{Bool, true, false, ◌&&◌, ◌||◌, cond, not}
@@ -25,7 +25,7 @@ use Rattle.sheet.specs.declared.rows.Slot.{Slot}
 use Rattle.rules.specs.Words.{Rules4}
 use Rattle.rules.specs.Quick.{beside, alone_in_round, clear_of_rounds, quick_rule, edge_after, edge_over, beside_rows, clear_of_rows, quick_row, round_left, first_not, number_or_none}
 use Rattle.rules.specs.declared.writers.Edge.{Edge}
-use Rattle.sheet.proofs.Slots.{AtRow, after_next, at_first, at_next, at_slot, count_most, slots_step, slots_end, slot_row, round_inside, number_tri}
+use Rattle.sheet.proofs.Slots.{AtRow, after_next, at_first, at_next, at_slot, slots_step, slots_end, round_inside, number_tri}
 
 -- ---- what is asked of pairs is asked of what they are made of
 

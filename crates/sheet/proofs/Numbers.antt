@@ -3,7 +3,7 @@ use Prim.Native.Nat.{ℕ, zero, suc, ◌+◌, ◌*◌, ◌/◌, ◌%◌, ◌^◌
 use mathlib.Core.Path.{◌≡◌, refl, sym, ap, ap₂, ◌∙◌}
 use mathlib.Core.List.{List, [], ◌∷◌, map}
 use native.Mathlib.Nat.{add-suc, add-zero, zero-add, add_assoc, add-mul, mul_assoc, mul-one, zero-mul, pow-succ', one-le-pow}
-use native.Mathlib.Nat.{mod-one, mod-eq_of_lt, mul-le-mul, mul-le-mul_right, lt_of_lt_of_le}
+use native.Mathlib.Nat.{mod-one, mod-eq_of_lt, mul-le-mul_right, lt_of_lt_of_le}
 use native.Mathlib.Numerals.{add-one}
 use native.Mathlib.Omega.{arith}
 use borrow.Author.Tests.{lt-ltb, le-leb}
@@ -55,10 +55,6 @@ num_below s place n h low =
     rw (num_read s place n h) (omega arith)
 
 -- ---- rows
-
--- the product that the number of rows halves is at most that of 255 parties
-pub most : (n : ℕ) → n ≤ 255 → n * (n + 1) ≤ 65280
-most n h = mul-le-mul {n₂ = 255} {m₂ = 256} h (omega arith)
 
 -- a whole row at a place
 pub taken_row : (s : List ℕ) (k : ℕ) → k < 135 → 8 + 14 * k + 14 ≤ length s → taken s k ≡ record { row = row_at s k; next = k + 1 }

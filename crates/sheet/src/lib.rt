@@ -4,5 +4,5 @@
 pub mod bytes;
 pub mod kind;
 pub mod rows;
-pub mod sets;
+mod sets;
 pub mod sizes;

@@ -37,7 +37,7 @@ pub struct RowReader<'a> {
     pub row: usize,
 }
 
-// A reader with whose its next row is, and how many rows it is to give.
+// A reader, whose its next row is, and how many rows are left to give: the sheet has the whole of each.
 #[derive(Clone, Copy)]
 pub struct Rows<'a> {
     pub reader: RowReader<'a>,
@@ -88,11 +88,8 @@ pub fn row_count(n: u8) -> usize
     ensures value { result ≡ row_count n }
     ensures upper_bound { result < 32768 }
 {
-    if n == 0 {
-        return 0;
-    }
     let m = usize::from(n);
-    m * (m + 1) / 2 - 1
+    (m * (m + 1) / 2).saturating_sub(1)
 }
 
 // The length of a whole sheet.
@@ -207,7 +204,7 @@ pub fn row_after(s: &[u8], row: usize) -> Taken
 impl<'a> Rows<'a> {
     ghost use Rattle.sheet.specs.Left.{rows_left};
 
-    // The rows of a sheet of n parties.
+    // The rows of a sheet of n parties, as many as the sheet has.
     pub fn of_sheet(sheet: &'a [u8], n: u8) -> Self
         ensures rows { rows_left result ≡ rows_on sheet.entry.now 0 (slot 2 1) (min (row_count n) (whole_rows (length sheet.entry.now))) }
         ensures sheet { result.reader.sheet ≡ sheet.entry }
@@ -221,7 +218,7 @@ impl<'a> Rows<'a> {
         }
     }
 
-    // The rows of one round of the same sheet.
+    // The rows of one round of the same sheet, as many as the sheet has.
     pub fn of_round(self, round: usize) -> Self
         ensures { rows_left result ≡ rows_on self.entry.reader.sheet.now (row_place round 1) (slot round 1) (min round (whole_rows (length self.entry.reader.sheet.now) - row_place round 1)) }
     {
