@@ -3,7 +3,7 @@ pub mod Folds
 pub mod Bits
 pub mod Numbers
 pub mod Endian
-pub mod Kinds
+pub mod KindNumbers
 pub mod Ranges
 pub mod Parts
 pub mod Flat
