@@ -2,7 +2,8 @@
 use Rattle.std.proofs.Common.{◌≡◌, ℕ, zero, suc, ◌+◌, ◌-◌, ◌*◌, ◌<◌, ◌≤◌, List, ◌++◌, map, take, drop, get_or, refl, sym, ap, ◌∙◌, arith}
 use Rattle.std.proofs.lemmas.List.{take-take, drop-take, drop-drop, get_or-take, get_or-drop, append-nil, append_assoc}
 use Rattle.std.specs.Simd.{first_chunks}
-use native.Mathlib.Nat.{zero-mul, suc-mul, add-zero}
+use native.Mathlib.Nat.{zero-mul, suc-mul, add-zero, zero-add}
+use native.Mathlib.Numerals.{add-one}
 use Rattle.sheet.specs.Bytes.{big, num}
 use Rattle.sheet.specs.Lists.{from, flat}
 use Rattle.record.specs.Record.{head_length, party_length, place_after, steps_at, decision_at}
@@ -37,9 +38,15 @@ chunk_line bytes n k d h =
 
 -- ---- the lines one after the other
 
-pub flat_more : (f : ℕ → List ℕ) (a k : ℕ) → flat (map f (from a (suc k))) ≡ flat (map f (from a k)) ++ f (a + k)
+flat_more : (f : ℕ → List ℕ) (a k : ℕ) → flat (map f (from a (suc k))) ≡ flat (map f (from a k)) ++ f (a + k)
 flat_more f a zero = append-nil (f a) ∙ ap f (sym (add-zero a))
 flat_more f a (suc k) =
     let next : suc a + k ≡ a + suc k = omega arith in
     ap (λ (l : List ℕ). f a ++ l) (flat_more f (suc a) k ∙ ap (λ (i : ℕ). flat (map f (from (suc a) k)) ++ f i) next)
     ∙ sym (append_assoc (f a) (flat (map f (from (suc a) k))) (f (a + suc k)))
+
+-- behind a text, the line of the party after k others
+pub lines_more : (text bytes : List ℕ) (k : ℕ) (line : List ℕ) → line ≡ record_line bytes k
+    → (text ++ flat (map (record_line bytes) (from 0 k))) ++ line ≡ text ++ flat (map (record_line bytes) (from 0 (k + 1)))
+lines_more text bytes k line is =
+    rw (is, add-one k, flat_more (record_line bytes) 0 k, zero-add k) (append_assoc text (flat (map (record_line bytes) (from 0 k))) (record_line bytes k))

@@ -18,6 +18,7 @@ pub(crate) struct Listed(Result<Listing, Refusal>);
 impl fmt::Display for Listed {
     ghost output = { λ l. Some (outcome_text l.0) };
 
+    #[tactic(auto, using(crate::proofs::Decimals::refused_printed))]
     fn fmt<W: fmt::Write>(&self, f: &mut fmt::Formatter<W>) -> fmt::Result {
         match &self.0 {
             Ok(listing) => write!(f, "{listing}"),

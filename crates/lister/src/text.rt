@@ -53,6 +53,7 @@ impl Line {
 impl fmt::Display for Line {
     ghost output = { λ l. Some (party_line l.party l.status l.steps l.decision) };
 
+    #[tactic(auto, using(crate::proofs::Decimals::decided_printed, crate::proofs::Decimals::undecided_printed))]
     fn fmt<W: fmt::Write>(&self, f: &mut fmt::Formatter<W>) -> fmt::Result {
         let Line {
             party,
@@ -61,11 +62,10 @@ impl fmt::Display for Line {
             decision,
         } = *self;
         let word = status_word(status);
-        write!(f, "{party} {word} {steps} ")?;
         if status == Status::DECIDED {
-            writeln!(f, "{decision}")
+            writeln!(f, "{party} {word} {steps} {decision}")
         } else {
-            writeln!(f, "-")
+            writeln!(f, "{party} {word} {steps} -")
         }
     }
 }
@@ -81,6 +81,7 @@ pub(crate) struct Listing {
 impl fmt::Display for Listing {
     ghost output = { λ l. Some (listing l.bytes l.entries) };
 
+    #[tactic(auto, using(crate::proofs::Decimals::counts_printed, std::proofs::lemmas::Grind::common_steps), unfolding(crate::specs::Text::listing))]
     fn fmt<W: fmt::Write>(&self, f: &mut fmt::Formatter<W>) -> fmt::Result {
         let (parties, _) = self.bytes[HEAD_LENGTH..].as_chunks::<PARTY_LENGTH>();
         let n = parties.len();
