@@ -1,8 +1,8 @@
--- A run that is done has the record of two parties, and the text goes by the run's answer.
+-- The text goes by the run's answer: it is that of the record where the run is done, and else of the refusal.
 use mathlib.Core.Path.{◌≡◌, refl, sym, ap, ◌∙◌}
 use mathlib.Core.List.{List}
 use Prim.Native.Nat.{ℕ}
-use lib.ListN.{length, get_or}
+use lib.ListN.{length}
 use Rattle.answers.specs.Answers.{Answer, answer, done, number_of, position_of, answer_of}
 use Rattle.answers.specs.declared.Refusal.{Refusal}
 use Rattle.answers.specs.declared.Verdict.{Verdict}
@@ -11,13 +11,9 @@ use Rattle.answers.proofs.Refused.{refused_number}
 use Rattle.lister.specs.Text.{listing, refused_text}
 use Rattle.lister.specs.Listed.{answered, recorded, listed}
 
-module _ (schedule : List ℕ) (ok : answered schedule ≡ done) where
-  pub two_parties : get_or (recorded schedule) 3 0 ≡ 2
-  two_parties = rw ok refl
-
-  pub listed_done : listed schedule ≡ listing (recorded schedule) (length schedule)
-  unfolding listed
-  listed_done = rw ok refl
+pub listed_done : (schedule : List ℕ) → answered schedule ≡ done → listed schedule ≡ listing (recorded schedule) (length schedule)
+unfolding listed
+listed_done schedule ok = rw ok refl
 
 pub listed_refused : (schedule : List ℕ) (v : Verdict) (r : Refusal) → answer_of v ≡ answered schedule → v ≡ Refused r
     → listed schedule ≡ refused_text (number_of r) (position_of r)

@@ -1,29 +1,42 @@
 // The text of a schedule's run: kind 1, B = 3, N = 2, proposals 500 and 600.
-ghost use Rattle.std.specs.Prelude.{◌≡◌, ◌++◌, ◌≤◌, length, drop};
-ghost use Rattle.lister.specs.Listed.{listed};
+ghost use Rattle.std.specs.Prelude.{◌≡◌, Some};
+ghost use Rattle.lister.specs.Listed.{listed, outcome_text};
 
-use crate::text;
-use answers::Verdict;
+use crate::text::{Listing, RECORD};
+use answers::{Refusal, Verdict};
 use session::runs;
 use sheet::sizes::{HEADER_LENGTH, ROW_LENGTH};
+use std::fmt;
 
-// The sheet of two parties, and the record.
+// The sheet of two parties.
 const SHEET: usize = HEADER_LENGTH + 2 * ROW_LENGTH;
 
-const RECORD: usize = record::HEAD_LENGTH + 2 * record::PARTY_LENGTH;
+// What a schedule is listed as: the text of its run's record, or the line of its refusal.
+#[derive(Drop)]
+pub(crate) struct Listed(Result<Listing, Refusal>);
 
-// Runs a schedule, and puts the text at the front of out; bytes past it keep their content.
-pub(crate) fn list(schedule: &[u8], out: &mut [u8]) -> usize
-    requires { 512 ≤ length out.old }
-    ensures value { result ≡ length (listed schedule.now) }
-    ensures out_after { out.new ≡ listed schedule.now ++ drop (length (listed schedule.now)) out.old }
+impl fmt::Display for Listed {
+    ghost output = { λ l. Some (outcome_text l.0) };
+
+    #[tactic(auto, using(crate::proofs::Decimals::refused_printed))]
+    fn fmt<W: fmt::Write>(&self, f: &mut fmt::Formatter<W>) -> fmt::Result {
+        match &self.0 {
+            Ok(listing) => write!(f, "{listing}"),
+            Err(refusal) => writeln!(f, "refused {} at {}", refusal.number(), refusal.position()),
+        }
+    }
+}
+
+// Runs a schedule.
+pub(crate) fn list(schedule: &[u8]) -> Listed
+    ensures { outcome_text result.0 ≡ listed schedule.now }
 {
     let mut layout = [0u8; SHEET];
     builder::build(1, 3, 2, &mut layout);
-    let proposals = [500u32, 600];
     let mut bytes = [0u8; RECORD];
-    match runs::run(&layout, &proposals, schedule, &mut bytes) {
-        Verdict::Done => text::put_listing(out, &bytes, schedule.len()),
-        Verdict::Refused(refusal) => text::put_refused(out, refusal.number(), refusal.position()),
+    let entries = schedule.len();
+    match runs::run(&layout, &[500, 600], schedule, &mut bytes) {
+        Verdict::Done => Listed(Ok(Listing { bytes, entries })),
+        Verdict::Refused(refusal) => Listed(Err(refusal)),
     }
 }

@@ -16,6 +16,7 @@ fn fill<R: Read>(input: &mut R, buffer: &mut [u8]) -> io::Result<usize>
     ensures bytes { IfOk result (λ n. Consumes (R.remaining input.old) (R.remaining input.new) (take n buffer.new)) }
     ensures end { IfOk result (λ n. n < length buffer.new → IsAtEnd (R.remaining input.new)) }
 {
+    // Counted by hand: `read_exact` answers no count where the input ends early, `read_to_end` takes a heap, and `io::copy` does not promise what it leaves in a slice.
     let mut n = 0;
     while n < buffer.len() {
         let got = input.read(&mut buffer[n..])?;
@@ -30,7 +31,5 @@ fn fill<R: Read>(input: &mut R, buffer: &mut [u8]) -> io::Result<usize>
 fn main(rt: HostRuntime) -> io::Result<()> {
     let mut schedule = [0u8; 4096];
     let n = fill(&mut rt.stdin(), &mut schedule)?;
-    let mut out = [0u8; 512];
-    let len = listing::list(&schedule[..n], &mut out);
-    rt.write_all(&out[..len])
+    rt.print(listing::list(&schedule[..n]))
 }

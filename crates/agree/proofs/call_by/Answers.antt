@@ -2,9 +2,10 @@
 use Rattle.std.proofs.Common.{◌<◌, ◌≤◌, arith}
 use borrow.Author.Tests.{lt-ltb, le-ltb}
 use Rattle.agree.proofs.call_by.Goals as goal
+use Rattle.agree.proofs.call_by.Goals.{in-0-to-127, in_default}
 
-pub returns-in-0-to-127 : goal.returns-in-0-to-127
-returns-in-0-to-127 c = let low : c.args.b < 128 = omega arith in rw (lt-ltb _ _ low) c.step.ensures
-
-pub returns-in_default : goal.returns-in_default
-returns-in_default c = let high : 128 ≤ c.args.b = omega arith in rw (le-ltb _ _ high) c.stop.ensures
+pub returns : goal.returns
+returns g c = elim c.if-b-lt128.branch [
+  | in-0-to-127 w ↦ let low : c.args.b < 128 = omega arith in rw (lt-ltb _ _ low, w.party-is) w.step_on.ensures.0
+  | in_default w ↦ let high : 128 ≤ c.args.b = omega arith in rw (le-ltb _ _ high, w.party-is) w.stop_on.ensures.0
+]

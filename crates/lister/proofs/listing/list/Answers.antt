@@ -1,35 +1,19 @@
--- The sheet is the builder's, so the run's answer and record are those of the text's definition; each arm puts the text of its case.
-use Rattle.std.proofs.Common.{ℕ, ◌≡◌, ◌∙◌, List, length, sym, ap, ap₂}
+-- The sheet is the builder's, so the run's answer and record are those of the text's definition; each arm has the text of its case.
+use Rattle.std.proofs.Common.{◌≡◌, sym, ap, ◌∙◌, List, ℕ, length}
 use Rattle.answers.specs.Answers.{done, answer_of}
-use Rattle.lister.specs.Text.{listing, refused_text}
-use Rattle.lister.specs.Listed.{answered, recorded, listed}
+use Rattle.lister.specs.Text.{listing}
+use Rattle.lister.specs.Listed.{answered, recorded}
 use Rattle.lister.proofs.Outcomes.{listed_done, listed_refused}
 use Rattle.lister.proofs.listing.list.Goals as goal
 
--- the text of the record of a run that is done
-record_text : (schedule bytes : List ℕ) → done ≡ answered schedule → bytes ≡ recorded schedule → listing bytes (length schedule) ≡ listed schedule
-record_text schedule bytes ok kept = ap (λ (b : List ℕ). listing b (length schedule)) kept ∙ sym (listed_done schedule (sym ok))
+pub returns-in-Done : goal.returns-in-Done
+returns-in-Done c =
+    let schedule = c.args.schedule.now in
+    let ok : done ≡ answered schedule = rw c.build.ensures.out_after at c.in-Done.ensures.result_value in
+    let kept : c.run.new.out ≡ recorded schedule = rw c.build.ensures.out_after at c.in-Done.ensures.out_after in
+    ap (λ (b : List ℕ). listing b (length schedule)) kept ∙ sym (listed_done schedule (sym ok))
 
-pub returns-in-Done-clause-value : goal.returns-in-Done-clause-value
-returns-in-Done-clause-value c =
-    let ok : done ≡ answered c.args.schedule.now = rw c.build.ensures.out_after at c.in-Done.ensures.result_value in
-    let kept : c.run.new.out ≡ recorded c.args.schedule.now = rw c.build.ensures.out_after at c.in-Done.ensures.out_after in
-    c.put_listing.ensures.value ∙ ap length (record_text c.args.schedule.now c.run.new.out ok kept)
-
-pub returns-in-Done-clause-out_after : goal.returns-in-Done-clause-out_after
-returns-in-Done-clause-out_after c =
-    let ok : done ≡ answered c.args.schedule.now = rw c.build.ensures.out_after at c.in-Done.ensures.result_value in
-    let kept : c.run.new.out ≡ recorded c.args.schedule.now = rw c.build.ensures.out_after at c.in-Done.ensures.out_after in
-    rw (record_text c.args.schedule.now c.run.new.out ok kept) at c.put_listing.ensures.out_after
-
-pub returns-in-Refused-clause-value : goal.returns-in-Refused-clause-value
-returns-in-Refused-clause-value c =
+pub returns-in-Refused : goal.returns-in-Refused
+returns-in-Refused c =
     let told : answer_of c.run.result ≡ answered c.args.schedule.now = rw c.build.ensures.out_after at c.run.ensures.result_value in
-    let text = listed_refused c.args.schedule.now c.run.result c.in-Refused.refusal told c.in-Refused.is in
-    c.put_refused.ensures.value ∙ ap length (ap₂ refused_text c.number.ensures c.position.ensures ∙ sym text)
-
-pub returns-in-Refused-clause-out_after : goal.returns-in-Refused-clause-out_after
-returns-in-Refused-clause-out_after c =
-    let told : answer_of c.run.result ≡ answered c.args.schedule.now = rw c.build.ensures.out_after at c.run.ensures.result_value in
-    let text = ap₂ refused_text c.number.ensures c.position.ensures ∙ sym (listed_refused c.args.schedule.now c.run.result c.in-Refused.refusal told c.in-Refused.is) in
-    rw text at c.put_refused.ensures.out_after
+    sym (listed_refused c.args.schedule.now c.run.result c.in-Refused.refusal told c.in-Refused.is)
