@@ -55,9 +55,12 @@ fn live(rt: &impl Print, s: Session) -> io::Result<()> {
 // Party 3 has written in its round when party 2 is stopped. Then 1 and 3 go on until they have decided, and one step more of 1 changes nothing.
 fn main(rt: HostRuntime) -> io::Result<()> {
     let mut sheet = [0u8; SHEET];
-    builder::build(1, 5, PARTIES, &mut sheet);
-    let opened = opening::open_value(&sheet, &[500, 600, 700]);
-    let first = call_all(&rt, opened.session, &[1, 1, 2, 3, 3, 130])?;
+    let _ = builder::build(1, 5, PARTIES, &mut sheet);
+    let opened = match opening::open_value(&sheet, &[500, 600, 700]) {
+        Ok(session) => session,
+        Err(refusal) => return println!(rt; "open refused {}", refusal.number()),
+    };
+    let first = call_all(&rt, opened, &[1, 1, 2, 3, 3, 130])?;
     live(&rt, first)?;
     let last = call_all(&rt, first, &[1, 1, 1, 1, 1, 1, 1, 1, 1, 1, 3, 3, 3, 3])?;
     live(&rt, last)?;

@@ -1,31 +1,21 @@
 // What is printed.
+use answers::Refusal;
 use state::{Party, Status};
 use std::fmt;
-use steps::reply::Reply;
 
 // A call's answer behind a word, or its refusal.
 #[derive(Drop)]
 pub(crate) struct Told {
     pub(crate) word: &'static str,
-    pub(crate) reply: Reply,
+    pub(crate) reply: Result<u8, Refusal>,
 }
 
 impl fmt::Display for Told {
     fn fmt<W: fmt::Write>(&self, f: &mut fmt::Formatter<W>) -> fmt::Result {
         match &self.reply {
-            Reply::Gave(value) => write!(f, "{}{value}", self.word),
-            Reply::Refused(refusal) => write!(f, " refused {}", refusal.number()),
+            Ok(value) => write!(f, "{}{value}", self.word),
+            Err(refusal) => write!(f, " refused {}", refusal.number()),
         }
-    }
-}
-
-// The word of a status.
-fn status_word(status: u8) -> &'static str {
-    match status {
-        Status::IDLE => "idle",
-        Status::RUNNING => "running",
-        Status::DECIDED => "decided",
-        _ => "stopped",
     }
 }
 
@@ -39,12 +29,12 @@ pub(crate) struct Line {
 impl fmt::Display for Line {
     fn fmt<W: fmt::Write>(&self, f: &mut fmt::Formatter<W>) -> fmt::Result {
         let Line { number, party } = *self;
-        let word = status_word(party.status);
+        let status = Status::try_from(party.status).unwrap_or(Status::Stopped);
         let steps = party.steps;
-        if party.status == Status::DECIDED {
-            write!(f, "{number} {word} {steps} {}", party.decision)
+        if status == Status::Decided {
+            write!(f, "{number} {status} {steps} {}", party.decision)
         } else {
-            write!(f, "{number} {word} {steps} -")
+            write!(f, "{number} {status} {steps} -")
         }
     }
 }

@@ -3,7 +3,7 @@ ghost use Rattle.std.specs.Prelude.{◌≡◌, Some};
 ghost use Rattle.lister.specs.Listed.{listed, outcome_text};
 
 use crate::text::{Listing, RECORD};
-use answers::{Refusal, Verdict};
+use answers::Refusal;
 use session::runs;
 use sheet::sizes::{HEADER_LENGTH, ROW_LENGTH};
 use std::fmt;
@@ -32,11 +32,11 @@ pub(crate) fn list(schedule: &[u8]) -> Listed
     ensures { outcome_text result.0 ≡ listed schedule.now }
 {
     let mut layout = [0u8; SHEET];
-    builder::build(1, 3, 2, &mut layout);
+    let _ = builder::build(1, 3, 2, &mut layout);
     let mut bytes = [0u8; RECORD];
     let entries = schedule.len();
     match runs::run(&layout, &[500, 600], schedule, &mut bytes) {
-        Verdict::Done => Listed(Ok(Listing { bytes, entries })),
-        Verdict::Refused(refusal) => Listed(Err(refusal)),
+        Ok(()) => Listed(Ok(Listing { bytes, entries })),
+        Err(refusal) => Listed(Err(refusal)),
     }
 }
