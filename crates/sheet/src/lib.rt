@@ -1,7 +1,6 @@
-// Layout sheets: numbers in bytes, write sets, and the reader of rows. The rules stand in `rules`.
+// Layout sheets: write sets, and the readers of rows. The rules stand in `rules`.
 #![tactic(auto)]
 
-pub mod bytes;
 pub mod rows;
 mod sets;
 pub mod sizes;
