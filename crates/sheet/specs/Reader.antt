@@ -1,18 +1,14 @@
 -- What the readers of rows give: the reader at its place, and the rows from a place on, each with its slot.
-use Rattle.std.specs.Prelude.{ℕ, zero, suc, ◌+◌, ◌-◌, ◌*◌, ◌/◌, ◌≡◌, List, [], ◌∷◌, Bool, ◌&&◌, cond, length, leb, ltb, Option, Some, None}
+use Rattle.std.specs.Prelude.{ℕ, zero, suc, ◌+◌, ◌-◌, ◌*◌, ◌/◌, ◌≡◌, List, [], ◌∷◌, ◌&&◌, cond, length, leb, ltb, Option, Some, None}
 use Rattle.sheet.specs.Sizes.{header_length, row_length, most_rows}
 use Rattle.sheet.specs.Rows.{row_at, slot_after, taken}
 use Rattle.sheet.specs.declared.rows.Row.{Row}
 use Rattle.sheet.specs.declared.rows.Slot.{Slot}
 use Rattle.sheet.specs.declared.rows.RowReader.{RowReader}
 
--- k is a row's place, and the sheet has the whole of the row
-abbrev pub has_row : List ℕ → ℕ → Bool
-has_row s k = ltb k most_rows && leb (header_length + row_length * suc k) (length s)
-
--- row k, where there is one
+-- row k, where the sheet has the whole of it
 abbrev pub row_or_none : List ℕ → ℕ → Option Row
-row_or_none s k = cond (has_row s k) (Some (row_at s k)) None
+row_or_none s k = cond (ltb k most_rows && leb (header_length + row_length * suc k) (length s)) (Some (row_at s k)) None
 
 -- a reader gave the row at its place, and the place went on; or there is none, and it stayed
 abbrev pub Reads : RowReader → Option Row → RowReader → Type 0

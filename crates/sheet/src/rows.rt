@@ -1,9 +1,9 @@
 // The rows of a sheet and the reader that goes from one to the next.
-ghost use Rattle.std.specs.Prelude.{◌≡◌, ◌+◌, ◌-◌, ◌*◌, ◌<◌, ◌≤◌, min, length, take, drop};
+ghost use Rattle.std.specs.Prelude.{◌≡◌, ◌+◌, ◌-◌, ◌*◌, ◌<◌, ◌≤◌, min, IfSome, length, take, drop};
 ghost use Rattle.std.specs.Option.{unwrap_or};
 ghost use Rattle.std.specs.Iterator.{at_most, YieldsFirst};
 ghost use Rattle.sheet.specs.Sizes.{header_length, row_length, most_rows};
-ghost use Rattle.sheet.specs.Reader.{has_row, row_or_none, whole_rows, rows_on};
+ghost use Rattle.sheet.specs.Reader.{row_or_none, whole_rows, rows_on};
 ghost use Rattle.sheet.specs.Rows.{slot, slot_after, row_count, is_top, sheet_length, row_from, row_at, taken, row_place, row_of};
 
 use crate::sizes::{HEADER_LENGTH, MASK_AT, MOST_PARTIES, MOST_ROWS, OWN_AT, PAIR_AT, ROW_LENGTH};
@@ -120,6 +120,30 @@ fn row_from(s: &[u8], at: usize) -> Row
     }
 }
 
+// One of the rows that the largest sheet has, where this sheet has the whole of it.
+fn row_within(s: &[u8], row: usize) -> Option<Row>
+    requires { row < most_rows }
+    ensures { result ≡ row_or_none s.now row }
+{
+    let at = HEADER_LENGTH + ROW_LENGTH * row;
+    if at + ROW_LENGTH <= s.len() {
+        Some(row_from(s, at))
+    } else {
+        None
+    }
+}
+
+// Row `row` of a sheet, counted from 0, where the sheet has the whole of it.
+pub fn row_at(s: &[u8], row: usize) -> Option<Row>
+    ensures { result ≡ row_or_none s.now row }
+{
+    if row < MOST_ROWS {
+        row_within(s, row)
+    } else {
+        None
+    }
+}
+
 // ---- the reader
 
 // A reader at any row.
@@ -137,13 +161,6 @@ impl<'a> RowReader<'a> {
         (self.sheet.len().saturating_sub(HEADER_LENGTH) / ROW_LENGTH).saturating_sub(self.row)
     }
 
-    // Whether the place is one of a sheet's, and the whole of its row is there.
-    fn has_row(self) -> bool
-        ensures { result ≡ has_row self.entry.sheet.now self.entry.row }
-    {
-        self.row < MOST_ROWS && HEADER_LENGTH + ROW_LENGTH * (self.row + 1) <= self.sheet.len()
-    }
-
     // The row at the place, and the place goes on.
     fn read(&mut self) -> Row
         requires { header_length + row_length * (self.old.row + 1) ≤ length self.old.sheet.now }
@@ -151,9 +168,9 @@ impl<'a> RowReader<'a> {
         ensures sheet { self.new.sheet ≡ self.old.sheet }
         ensures place { self.new.row ≡ self.old.row + 1 }
     {
-        let row = row_from(self.sheet, HEADER_LENGTH + ROW_LENGTH * self.row);
-        self.row += 1;
-        row
+        let place = self.row;
+        self.row = place + 1;
+        row_from(self.sheet, HEADER_LENGTH + ROW_LENGTH * place)
     }
 }
 
@@ -168,19 +185,10 @@ impl<'a> Iterator for RowReader<'a> {
     ghost remaining = { λ r. at_most (most_rows - r.row) };
 
     fn next(&mut self) -> Option<Row> {
-        if self.has_row() {
-            Some(self.read())
-        } else {
-            None
-        }
+        let row = row_at(self.sheet, self.row)?;
+        self.row += 1;
+        Some(row)
     }
-}
-
-// Row `row` of a sheet, counted from 0, where the sheet has the whole of it.
-pub fn row_at(s: &[u8], row: usize) -> Option<Row>
-    ensures { result ≡ row_or_none s.now row }
-{
-    rows_from(s, row).next()
 }
 
 // The row at a place and the next place, or zeros and the same place where there is no row.
@@ -255,7 +263,8 @@ impl<'a> Iterator for Rows<'a> {
 
 // The place of a party's row of a round, or none where there can be no row.
 fn row_place(round: usize, party: usize) -> Option<usize>
-    ensures { row_place round party ≡ unwrap_or result most_rows }
+    ensures value { row_place round party ≡ unwrap_or result most_rows }
+    ensures below { IfSome result (λ k. k < most_rows) }
 {
     if (2..=MOST_PARTIES).contains(&round) && (1..=round).contains(&party) {
         Some(round * (round - 1) / 2 - 1 + party - 1)
@@ -269,6 +278,6 @@ pub fn row_of(s: &[u8], round: usize, party: usize) -> Row
     ensures { result ≡ row_of s.now round party }
 {
     row_place(round, party)
-        .and_then(|place| row_at(s, place))
+        .and_then(|place| row_within(s, place))
         .unwrap_or_default()
 }
