@@ -134,7 +134,7 @@ fn row_within(s: &[u8], row: usize) -> Option<Row>
 }
 
 // Row `row` of a sheet, counted from 0, where the sheet has the whole of it.
-pub fn row_at(s: &[u8], row: usize) -> Option<Row>
+pub fn row_or_none(s: &[u8], row: usize) -> Option<Row>
     ensures { result ≡ row_or_none s.now row }
 {
     if row < MOST_ROWS {
@@ -185,17 +185,24 @@ impl<'a> Iterator for RowReader<'a> {
     ghost remaining = { λ r. at_most (most_rows - r.row) };
 
     fn next(&mut self) -> Option<Row> {
-        let row = row_at(self.sheet, self.row)?;
+        let row = row_or_none(self.sheet, self.row)?;
         self.row += 1;
         Some(row)
     }
+}
+
+// The row at the reader's place, and the place goes on; where there is none, zeros, and it stays.
+pub fn next_row(r: &mut RowReader) -> Row
+    ensures { (result ≡ (taken r.old.sheet.now r.old.row).row) × ((r.new.sheet ≡ r.old.sheet) × (r.new.row ≡ (taken r.old.sheet.now r.old.row).next)) }
+{
+    r.next().unwrap_or_default()
 }
 
 // The row at a place and the next place, or zeros and the same place where there is no row.
 pub fn row_after(s: &[u8], row: usize) -> Taken
     ensures { result ≡ taken s.now row }
 {
-    match row_at(s, row) {
+    match row_or_none(s, row) {
         Some(w) => Taken {
             row: w,
             next: row + 1,
