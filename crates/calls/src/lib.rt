@@ -1,4 +1,5 @@
-// The calls: stop and live on a session that is lent, and the forms of step, stop and live, lent and by value.
+// The calls: stop and live on a session that is lent, and the forms of step, stop and live, lent and by value. Document 01 names the forms: step and stop by `&mut Session`,
+// thin over those on values.
 #![tactic(auto)]
 
 pub mod stopping;

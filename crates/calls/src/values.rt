@@ -1,4 +1,4 @@
-// The calls on a session by value.
+// The calls on a session by value. Step and stop stay two functions, as document 01 names them: one that takes the call as a closure would be no shorter.
 ghost use Rattle.std.specs.Prelude.{◌≡◌};
 ghost use Rattle.steps.specs.Calls.{told_of, step_told, stepped, stop_told, stopped, live_told};
 

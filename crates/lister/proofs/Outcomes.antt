@@ -1,10 +1,10 @@
 -- The text goes by the run's answer: it is that of the record where the run is done, and else of the refusal.
 use Rattle.std.specs.Prelude.{Err}
-use mathlib.Core.Path.{◌≡◌, refl, sym, ap, ◌∙◌}
+use mathlib.Core.Path.{◌≡◌, refl, sym, ap}
 use mathlib.Core.List.{List}
 use Prim.Native.Nat.{ℕ}
 use lib.ListN.{length}
-use Rattle.answers.specs.Answers.{Answer, answer, done, number_of, position_of, answer_of}
+use Rattle.answers.specs.Answers.{Answer, done, number_of, position_of, answer_of}
 use Rattle.answers.specs.declared.Refusal.{Refusal}
 use Rattle.answers.proofs.Refused.{refused_number}
 use Rattle.lister.specs.Text.{listing, refused_text}

@@ -2,6 +2,7 @@
 ghost use Rattle.std.specs.Prelude.{◌≡◌, get_or, Some};
 ghost use Rattle.sheet.specs.Bytes.{num};
 ghost use Rattle.record.specs.Record.{parties_in, steps_at, decision_at};
+ghost use Rattle.state.specs.StatusNames.{word_of};
 ghost use Rattle.lister.specs.Text.{status_word, party_line, listing};
 
 use record::{HEAD_LENGTH, PARTY_LENGTH};
@@ -11,16 +12,11 @@ use std::fmt;
 // The record of two parties.
 pub(crate) const RECORD: usize = HEAD_LENGTH + 2 * PARTY_LENGTH;
 
-// The word of a status.
-fn status_word(status: u8) -> &'static str
-    ensures { result.now ≡ status_word status }
+// The status of this number; a record has no other numbers than 0 to 3.
+fn status_of(number: u8) -> Status
+    ensures { word_of result ≡ status_word number }
 {
-    match status {
-        Status::IDLE => "idle",
-        Status::RUNNING => "running",
-        Status::DECIDED => "decided",
-        _ => "stopped",
-    }
+    Status::try_from(number).unwrap_or(Status::Stopped)
 }
 
 // A party's line: its number, status and own steps, and the decision of a party that has decided, or a dash.
@@ -61,7 +57,7 @@ impl fmt::Display for Line {
             steps,
             decision,
         } = *self;
-        let word = status_word(status);
+        let word = status_of(status);
         if status == Status::DECIDED {
             writeln!(f, "{party} {word} {steps} {decision}")
         } else {

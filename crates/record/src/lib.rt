@@ -27,7 +27,7 @@ pub const STEPS_AT: usize = 1;
 pub const DECISION_AT: usize = 3;
 
 // How many bytes the record of n parties takes.
-fn record_length(n: u8) -> usize
+pub fn record_length(n: u8) -> usize
     ensures { result ≡ record_length n }
 {
     HEAD_LENGTH + PARTY_LENGTH * usize::from(n)

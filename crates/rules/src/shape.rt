@@ -7,14 +7,14 @@ ghost use Rattle.rules.specs.Check.{numbers_ok, header_ok, length_ok};
 ghost use Rattle.rules.specs.Quick.{number_or_none};
 ghost use Rattle.rules.specs.Words.{Rules1, Rules4};
 
-use sheet::rows;
-use sheet::rows::{Row, Rows, Slot};
+use sheet::kind::Kind;
+use sheet::rows::{self, Row, Rows, Slot};
 use sheet::sizes::{
     BOUND_AT, KIND_AT, LENGTH_AT, LENGTH_LOW_AT, MOST_BOUND, MOST_PARTIES, MOST_UNITS, PARTIES_AT,
     UNITS_AT, UNITS_LOW_AT,
 };
 
-// The most parties and units, as wide as the numbers that are tested.
+// The most parties and units once more, as wide as the numbers that are tested: a range is of one type.
 const PARTIES: u32 = MOST_PARTIES as u32;
 
 const UNITS: u16 = MOST_UNITS as u16;
@@ -23,7 +23,9 @@ const UNITS: u16 = MOST_UNITS as u16;
 pub fn numbers_ok(kind: u32, bound: u32, parties: u32) -> bool
     ensures { result ≡ numbers_ok kind bound parties }
 {
-    (1..=2).contains(&kind) && (1..=MOST_BOUND).contains(&bound) && (1..=PARTIES).contains(&parties)
+    Kind::try_from(kind).is_ok()
+        && (1..=MOST_BOUND).contains(&bound)
+        && (1..=PARTIES).contains(&parties)
 }
 
 pub(crate) fn header_ok(s: &[u8]) -> bool

@@ -15,6 +15,7 @@ use sheet::sizes::PARTIES_AT;
 // What the rows so far say of where rounds lie: rows of this round must start at or past `limit`, and all rows so far end before `end`.
 #[derive(Drop)]
 pub(crate) struct Edge {
+    // A flag, and no Option of the rest: the pass asks every row and branches at none.
     pub ok: bool,
     pub limit: u32,
     pub end: u32,

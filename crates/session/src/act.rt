@@ -236,6 +236,7 @@ pub(crate) fn act(
         number: i,
         party: p,
     };
+    // By the number, as document 01 asks: an entry may hold any, and `well_formed` is what excludes it.
     let place = p.place;
     match place {
         Place::ANNOUNCE => actor.announce(),

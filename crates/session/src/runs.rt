@@ -65,7 +65,7 @@ pub fn run(sheet: &[u8], proposals: &[u32], schedule: &[u8], out: &mut [u8]) -> 
     if let Some(at) = first_bad_byte(schedule, n) {
         return Err(Refusal::Schedule(at));
     }
-    if out.len() < record::HEAD_LENGTH + record::PARTY_LENGTH * (n as usize) {
+    if out.len() < record::record_length(n) {
         return Err(Refusal::Output);
     }
     let parties = obey(sheet, proposals, schedule, n);

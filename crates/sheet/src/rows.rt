@@ -23,7 +23,7 @@ pub struct Slot {
     pub party: usize,
 }
 
-// A row that was read, and the next place.
+// A row that was read, and the next place. Where there is no row, zeros and the same place, and no Option: `taken` says so, and who asks cannot fail.
 #[derive(Clone, Copy)]
 pub struct Taken {
     pub row: Row,
@@ -280,7 +280,7 @@ fn row_place(round: usize, party: usize) -> Option<usize>
     }
 }
 
-// A party's row of a round, or zeros where there can be none.
+// A party's row of a round, or zeros where there can be none: `row_of` says so, and who asks cannot fail.
 pub fn row_of(s: &[u8], round: usize, party: usize) -> Row
     ensures { result ≡ row_of s.now round party }
 {

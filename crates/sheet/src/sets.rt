@@ -58,7 +58,7 @@ impl Row {
         self.start % u16::from(bound) == 0
     }
 
-    // Whether the set is legal for the kind.
+    // Whether the set is legal for the kind. Its number, and not a `Kind`: `legal` speaks of each number, and all but 1 are taken as 2.
     pub fn is_legal(self, kind: u8, bound: u8) -> bool
         ensures { result ≡ legal kind bound self.start self.mask }
     {

@@ -1,5 +1,5 @@
 -- Any two results that the promise of a status's reading permits are equal: a number has one name, or none.
-use Rattle.std.proofs.Common.{◌≡◌, ℕ, zero, suc, Result, Ok, Err, sym, ap, subst, ◌∙◌, refl, arith}
+use Rattle.std.proofs.Common.{◌≡◌, ℕ, zero, suc, Result, Ok, Err, sym, ap, ◌∙◌, arith}
 use Rattle.state.specs.StatusNames.{Names}
 use Rattle.state.specs.declared.kept.Status.{Status}
 use Rattle.state.specs.declared.kept.Status.TheVariants.{Idle, Running, Decided, Stopped}

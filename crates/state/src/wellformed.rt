@@ -13,6 +13,7 @@ use sheet::sizes::{
     UNITS_LOW_AT,
 };
 
+// The last party once more, as wide as the numbers beside it.
 const LAST_PARTY: u8 = MOST_PARTIES as u8;
 
 // How many bytes of the copy the carried sheet has.

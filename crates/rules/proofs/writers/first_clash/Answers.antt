@@ -1,3 +1,4 @@
+-- The first row that the test refuses is found by its place, and counted from 1.
 use Rattle.std.proofs.Common.{◌≡◌, ◌+◌, ◌∙◌, not, ap, option_map, refl, rules}
 use Rattle.std.specs.List.{position}
 use Rattle.std.proofs.lemmas.Iterator.Consumers.{YieldsList-from_first}

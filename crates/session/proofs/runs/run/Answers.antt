@@ -33,8 +33,8 @@ returns-in-Some c =
     let told = run_refused sheet proposals schedule a.out.now (Err r) r refl e in
     record { result_value = told.0; out_after = told.1 }
 
-pub returns-then-out-n : goal.returns-then-out-n
-returns-then-out-n c =
+pub returns-then-out-record_length : goal.returns-then-out-record_length
+returns-then-out-record_length c =
     let a = c.args in
     let sheet = a.sheet.now in
     let proposals = a.proposals.now in
