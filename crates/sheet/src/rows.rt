@@ -223,6 +223,9 @@ impl<'a> Rows<'a> {
     pub fn of_sheet(sheet: &'a [u8], n: u8) -> Self
         ensures rows { rows_left result ≡ rows_on sheet.entry.now 0 (slot 2 1) (min (row_count n) (whole_rows (length sheet.entry.now))) }
         ensures sheet { result.reader.sheet ≡ sheet.entry }
+        ensures place { result.reader.row ≡ 0 }
+        ensures slot { result.slot ≡ slot 2 1 }
+        ensures left { result.left ≡ min (row_count n) (whole_rows (length sheet.entry.now)) }
         ensures count { result.left < 32768 }
     {
         let reader = rows_from(sheet, 0);
@@ -235,7 +238,11 @@ impl<'a> Rows<'a> {
 
     // The rows of one round of the same sheet, as many as the sheet has.
     pub fn of_round(self, round: usize) -> Self
-        ensures { rows_left result ≡ rows_on self.entry.reader.sheet.now (row_place round 1) (slot round 1) (min round (whole_rows (length self.entry.reader.sheet.now) - row_place round 1)) }
+        ensures rows { rows_left result ≡ rows_on self.entry.reader.sheet.now (row_place round 1) (slot round 1) (min round (whole_rows (length self.entry.reader.sheet.now) - row_place round 1)) }
+        ensures sheet { result.reader.sheet ≡ self.entry.reader.sheet }
+        ensures place { result.reader.row ≡ row_place round 1 }
+        ensures slot { result.slot ≡ slot round 1 }
+        ensures left { result.left ≡ min round (whole_rows (length self.entry.reader.sheet.now) - row_place round 1) }
     {
         let reader = rows_from(self.reader.sheet, row_place(round, 1).unwrap_or(MOST_ROWS));
         Rows {
