@@ -1,5 +1,5 @@
 -- The number and position that document 01 gives each answer.
-use Rattle.std.specs.Prelude.{ℕ, Result, Ok, Err}
+use Rattle.std.specs.Prelude.{ℕ, List, ◌++◌, Result, Ok, Err, codes, decimal}
 use Rattle.answers.specs.declared.Refusal.{Refusal}
 use Rattle.answers.specs.declared.Refusal.TheVariants.{Short, Version, Header, Length, Row, Writer, Proposals, Schedule, Session, Party, Output, NoSheet}
 
@@ -47,3 +47,7 @@ position_of NoSheet = 0
 abbrev pub answer_of : {A : Type 0} → Result A Refusal → Answer
 answer_of (Ok _) = done
 answer_of (Err r) = answer (number_of r) (position_of r)
+
+-- what is printed of a refusal
+abbrev pub refusal_text : Refusal → List ℕ
+refusal_text r = codes "refused " ++ decimal (number_of r) ++ codes " at " ++ decimal (position_of r)

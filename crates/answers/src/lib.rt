@@ -1,8 +1,11 @@
 // Why a call is refused. `specs/Answers.antt` gives document 01's number and position of each case, and of a call's result.
 #![tactic(auto)]
 
-ghost use Rattle.std.specs.Prelude.{◌≡◌};
-ghost use Rattle.answers.specs.Answers.{number_of, position_of};
+ghost use Rattle.std.specs.Prelude.{◌≡◌, Some};
+ghost use Rattle.answers.specs.Answers.{number_of, position_of, refusal_text};
+
+use std::error::Error;
+use std::fmt;
 
 // Why a call was refused. A row is counted from 1, the index of a schedule byte from 0.
 #[derive(Clone, Copy, Debug, PartialEq, Eq)]
@@ -54,3 +57,14 @@ impl Refusal {
         }
     }
 }
+
+// Its number and position in words.
+impl fmt::Display for Refusal {
+    ghost output = { λ r. Some (refusal_text r) };
+
+    fn fmt<W: fmt::Write>(&self, f: &mut fmt::Formatter<W>) -> fmt::Result {
+        write!(f, "refused {} at {}", self.number(), self.position())
+    }
+}
+
+impl Error for Refusal {}
