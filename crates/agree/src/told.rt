@@ -2,6 +2,34 @@
 use answers::Refusal;
 use state::{Party, Status};
 use std::fmt;
+use std::io;
+
+// Standard output, and the first line that failed to be written; nothing is written after that one. So the calls need no error of their own.
+#[derive(Drop)]
+pub(crate) struct Lines {
+    to: HostRuntime,
+    outcome: io::Result<()>,
+}
+
+impl Lines {
+    pub(crate) fn new(to: HostRuntime) -> Self {
+        Lines {
+            to,
+            outcome: Ok(()),
+        }
+    }
+
+    pub(crate) fn line<D: fmt::Display + Drop>(&mut self, line: D) {
+        if self.outcome.is_ok() {
+            self.outcome = self.to.println(line);
+        }
+    }
+
+    // Whether all was written.
+    pub(crate) fn outcome(self) -> io::Result<()> {
+        self.outcome
+    }
+}
 
 // A call's answer behind a word, or its refusal.
 #[derive(Drop)]

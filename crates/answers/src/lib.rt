@@ -25,7 +25,7 @@ pub enum Refusal {
 }
 
 impl Refusal {
-    // Document 01's number of the refusal.
+    // Document 01's number of the refusal. A method, and no From: `position` stands beside it, and a byte does not say that it is this number.
     pub fn number(self) -> u8
         ensures { result ≡ number_of self }
     {

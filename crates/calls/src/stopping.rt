@@ -8,7 +8,7 @@ use session::stepping;
 use sheet::sizes::PARTIES_AT;
 use state::{Party, Session, Status};
 
-// A stop of party `party`: its status afterwards.
+// A stop of party `party`: its status afterwards. What it shares with a step is `asked` and the index of the party's entry.
 pub fn stop_in(s: &mut Session, party: u32) -> Result<u8, Refusal>
     ensures session_after { s.new ≡ stopped s.old party }
     ensures reply_value { told_of result ≡ stop_told s.old party }

@@ -33,7 +33,7 @@ pub(crate) fn open(sheet: &[u8], proposals: &[u8], session: &mut [u8]) -> Result
     Ok(())
 }
 
-// Reads a session into one that is lent; 9 where the bytes are of another length.
+// Reads a session into one that is lent, which takes one session's stack and not two; 9 where the bytes are of another length.
 fn read(bytes: &[u8], s: &mut Session) -> Result<(), Refusal>
     ensures refused { IfErr result (λ r. (r ≡ Refusal.Session) × (length bytes.now ≢ session_length)) }
     ensures read { OnOk result ((length bytes.now ≡ session_length) × (s.new ≡ session_of bytes.now)) }
@@ -84,6 +84,7 @@ fn run_long(sheet: &[u8], proposals: &[u32], schedule: &[u8]) -> Result<(), Refu
     ensures { answer_of result ≡ run_answer sheet.now proposals.now (heard schedule.now) 0 }
 {
     let mut none = [0u8; 1];
+    // In two steps: with one pattern for both, the arm for the rest does not know that it is not this refusal.
     match runs::run(sheet, proposals, &schedule[..LAST_INDEX], &mut none) {
         Ok(()) => Ok(()),
         Err(refusal) => match refusal {

@@ -18,6 +18,7 @@ use sheet::sizes::{MOST_PARTIES, MOST_SHEET};
 pub use sizes::SESSION_LENGTH;
 use state::{Party, Session};
 
+// The length is asked of any slice in the four public functions, and known in those that they call.
 fn read_whole(bytes: &[u8], s: &mut Session)
     requires { length bytes.now ≡ session_length }
     ensures { s.new ≡ session_of bytes.now }

@@ -30,7 +30,7 @@ impl Entry for u32 {
     }
 }
 
-// The proposals that a slice holds, and zeros behind them.
+// The proposals that a slice holds, and zeros behind them: an array with a count, as there is no heap.
 #[derive(Drop)]
 pub struct Proposals {
     pub count: usize,

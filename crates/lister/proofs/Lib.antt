@@ -1,4 +1,5 @@
 -- Laws that several proofs cite; each file says its argument in its first line.
+pub mod Placing
 pub mod Decimals
 pub mod Lines
 pub mod Outcomes

@@ -1,5 +1,5 @@
--- The text that the lister prints, in ASCII bytes.
-use Rattle.std.specs.Prelude.{ℕ, zero, suc, ◌+◌, ◌/◌, ◌%◌, List, [], ◌∷◌, ◌++◌, map, cond, ltb, eqb}
+-- The text that the lister prints, in ASCII bytes, and how it is put into a buffer.
+use Rattle.std.specs.Prelude.{ℕ, zero, suc, ◌+◌, ◌/◌, ◌%◌, ◌≡◌, List, [], ◌∷◌, ◌++◌, map, cond, length, take, drop, ltb, eqb}
 use Rattle.sheet.specs.Lists.{from, flat}
 use Rattle.record.specs.Record.{parties_in, status_after, steps_after, decision_after}
 
@@ -79,3 +79,14 @@ listing bytes entries =
 -- a refusal's number and position
 unfoldable pub refused_text : ℕ → ℕ → List ℕ
 refused_text number position = counts_line refused_word number at_word position
+
+-- ---- in a buffer
+
+-- o with a text at a place
+abbrev pub placed : List ℕ → ℕ → List ℕ → List ℕ
+placed o at text = take at o ++ (text ++ drop (at + length text) o)
+
+-- a text was put at a place of o, which leaves o' and the place behind the text
+pub record Put (o : List ℕ) (at : ℕ) (text o' : List ℕ) (next : ℕ) : Type 0 where
+  pub place : next ≡ at + length text
+  pub bytes : o' ≡ placed o at text

@@ -44,7 +44,7 @@ fn put_head(o: &mut [u8], n: u8)
     o[PARTIES_AT] = n;
 }
 
-// A party's seven bytes, at the start of what is lent.
+// A party's seven bytes, at the start of what is lent. A session's entry has eleven, and these at other places.
 fn put_party(o: &mut [u8], p: Party)
     requires { party_length ≤ length o.old }
     ensures { o.new ≡ party_record p ++ drop party_length o.old }
@@ -54,7 +54,7 @@ fn put_party(o: &mut [u8], p: Party)
     o[DECISION_AT..PARTY_LENGTH].copy_from_slice(&p.decision.to_be_bytes());
 }
 
-// The record of the first n parties; the bytes past it stay.
+// The record of the first n of a session's 16 entries; the bytes past it stay.
 fn put_whole(out: &mut [u8], n: u8, parties: [Party; MOST_PARTIES])
     requires { (n ≤ most_parties) × (record_length n ≤ length out.old) }
     ensures { out.new ≡ record_bytes n parties ++ drop (record_length n) out.old }

@@ -28,6 +28,7 @@ pub fn numbers_ok(kind: u32, bound: u32, parties: u32) -> bool
         && (1..=PARTIES).contains(&parties)
 }
 
+// A slice that has the header's eight bytes, here and in the two functions below: the header is looked at while its length is still to be tested.
 pub(crate) fn header_ok(s: &[u8]) -> bool
     requires { Rules1 s.now }
     ensures { result ≡ header_ok (layout_of s.now) }

@@ -116,7 +116,7 @@ impl Actor {
         self.go_to(Place::WRITE, self.party.round, 0, self.party.candidate)
     }
 
-    // A party's row of the round.
+    // A party's row of the round. What `ReadyAt` asks is no fact of who acts: each act asks for another party's row.
     fn row(self, sheet: &[u8], party: u8) -> Row
         requires { ReadyAt sheet.now party self.party }
         ensures row { result ≡ (layout_of sheet.now).row (slot self.party.round party) }

@@ -41,6 +41,7 @@ fn obey(sheet: &[u8], proposals: &[u32], schedule: &[u8], n: u8) -> [Party; MOST
     let mut parties = opening::fresh_parties(n);
     let mut marks = [0u8; MOST_UNITS];
     let mut published = [0u8; CELLS];
+    // A step or a stop by the range of its byte, as document 01 asks.
     for &b in schedule {
         let i = b % 128;
         let at = i as usize - 1;

@@ -13,7 +13,7 @@ use state::{Party, Place, Session, Status, wellformed};
 fn is_party(n: u8, party: u32) -> bool
     ensures { result ≡ within 1 n party }
 {
-    1 <= party && party <= u32::from(n)
+    (1..=u32::from(n)).contains(&party)
 }
 
 // Why a call for a party is refused: 9, then 10.
@@ -30,7 +30,7 @@ pub fn asked(s: &Session, party: u32) -> Result<(), Refusal>
     Ok(())
 }
 
-// A step of party `party`: the place acted on, or 8 where nothing changes.
+// A step of party `party`: the place acted on, or 8 where nothing changes. What it shares with a stop is `asked` and the index of the party's entry.
 pub fn step_in(s: &mut Session, party: u32) -> Result<u8, Refusal>
     ensures session_after { s.new ≡ stepped s.old party }
     ensures reply_value { told_of result ≡ step_told s.old party }

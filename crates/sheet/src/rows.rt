@@ -191,7 +191,7 @@ impl<'a> Iterator for RowReader<'a> {
     }
 }
 
-// The row at the reader's place, and the place goes on; where there is none, zeros, and it stays.
+// The row at the reader's place, and the place goes on; where there is none, zeros, and it stays: who asks cannot fail.
 pub fn next_row(r: &mut RowReader) -> Row
     ensures { (result ≡ (taken r.old.sheet.now r.old.row).row) × ((r.new.sheet ≡ r.old.sheet) × (r.new.row ≡ (taken r.old.sheet.now r.old.row).next)) }
 {
@@ -236,7 +236,7 @@ impl<'a> Rows<'a> {
         }
     }
 
-    // The rows of one round of the same sheet, as many as the sheet has.
+    // The rows of one round of the same sheet, as many as the sheet has; where there can be none, from behind the last, as the definition `row_place` has it.
     pub fn of_round(self, round: usize) -> Self
         ensures rows { rows_left result ≡ rows_on self.entry.reader.sheet.now (row_place round 1) (slot round 1) (min round (whole_rows (length self.entry.reader.sheet.now) - row_place round 1)) }
         ensures sheet { result.reader.sheet ≡ self.entry.reader.sheet }

@@ -140,6 +140,7 @@ impl Party {
     }
 }
 
+// Arrays of fixed size, as there is no heap: the sheet's copy says in its first two bytes how long the sheet is.
 // `published` holds round r and lower k at MOST_PARTIES (r - 1) + (k - 1).
 #[derive(Clone, Copy)]
 pub struct Session {

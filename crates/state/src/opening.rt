@@ -1,6 +1,5 @@
 // Whether a session is opened, and a session filled whole at opening.
-ghost use Rattle.std.specs.Prelude.{[], ◌≡◌, ◌-◌, ◌≤◌, min, length, take, replicate};
-ghost use mathlib.Core.List.{◌++◌, map};
+ghost use Rattle.std.specs.Prelude.{[], ◌++◌, ◌≡◌, map, ◌-◌, ◌≤◌, min, length, take, replicate};
 ghost use Rattle.sheet.specs.Sizes.{most_parties, most_sheet};
 ghost use Rattle.sheet.specs.Lists.{from};
 ghost use Rattle.answers.specs.Answers.{answer_of};

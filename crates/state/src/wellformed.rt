@@ -24,12 +24,10 @@ pub fn carried_length(sheet: &[u8; MOST_SHEET]) -> usize
     usize::from(field).min(MOST_SHEET)
 }
 
-// Whether the front of a slice is an accepted sheet.
-fn is_accepted(s: &[u8], len: usize) -> bool
-    requires { len ≤ length s.now }
-    ensures { result ≡ eqb (check_answer (take len s.now)).number 0 }
+fn is_accepted(s: &[u8]) -> bool
+    ensures { result ≡ eqb (check_answer s.now).number 0 }
 {
-    rules::check(&s[..len]).is_ok()
+    rules::check(s).is_ok()
 }
 
 // Whether each byte is at most this one. It asks every byte, with no early end, so that it compiles to vector code.
@@ -44,7 +42,7 @@ fn sheet_ok(sheet: &[u8; MOST_SHEET]) -> bool
     ensures { result ≡ carried_ok sheet.now }
 {
     let len = carried_length(sheet);
-    is_accepted(sheet, len) && are_at_most(&sheet[len..], 0)
+    is_accepted(&sheet[..len]) && are_at_most(&sheet[len..], 0)
 }
 
 // The marks of the units are 0 to 2; past them they are zero.
@@ -64,7 +62,7 @@ fn most_published(n: u8, j: u8) -> u8
     if (2..=n).contains(&r) && k < r { n } else { 0 }
 }
 
-// It asks every entry, as `are_at_most` does, and counts them in bytes, which is faster.
+// It asks every entry, as `are_at_most` does, each for a bound of its own, and counts them in bytes, which is faster.
 fn published_ok(published: &[u8; CELLS], n: u8) -> bool
     ensures { result ≡ published_ok n published.now }
 {
@@ -74,6 +72,7 @@ fn published_ok(published: &[u8; CELLS], n: u8) -> bool
     )
 }
 
+// A chain of its own: a test of any type's zeros could not say zero as the definition does.
 fn proposals_ok(proposals: &[u32; MOST_PARTIES], n: usize) -> bool
     requires { n ≤ most_parties }
     ensures { result ≡ proposals_ok n proposals.now }
@@ -81,6 +80,7 @@ fn proposals_ok(proposals: &[u32; MOST_PARTIES], n: usize) -> bool
     proposals[n..].iter().all(|x| *x == 0)
 }
 
+// Each test takes what the definition of its name takes, also n, which is the sheet's byte: its bound is shown once, where the sheet is accepted.
 impl Party {
     // The round of party i of n, by the place.
     fn round_ok(self, n: u8, i: u8) -> bool
@@ -98,7 +98,7 @@ impl Party {
         ensures { result ≡ scan_ok self }
     {
         if (Place::READ_OWN..=Place::FETCH).contains(&self.place) {
-            1 <= self.k && self.k < self.round
+            (1..self.round).contains(&self.k)
         } else {
             self.k == 0
         }

@@ -12,4 +12,4 @@ on s t schedule i h e =
     ∙ sym (ap (called s) (drop-cons schedule i 0 h ∙ ap (λ (j : ℕ). get_or schedule i 0 ∷ drop j schedule) (sym (add-one i))))
 
 pub loop-b-preserved : goal.loop-b-preserved
-loop-b-preserved g c = on _ _ _ _ c.loop-b-test.true c.in_ok-t.ensures ∙ c.loop-b.invariant
+loop-b-preserved c = on _ _ _ _ c.loop-b-test.true c.call_by-t.ensures ∙ c.loop-b.invariant

@@ -4,4 +4,4 @@ use Rattle.steps.specs.Trace.{called}
 use Rattle.agree.proofs.call_all.Given as goal
 
 abbrev pub invariant-loop-b : goal.invariant-loop-b
-invariant-loop-b g l = called l.t (drop l.b-index l.schedule) ≡ called l.initial.t l.schedule
+invariant-loop-b l = called l.t (drop l.b-index l.schedule) ≡ called l.initial.t l.schedule

@@ -5,7 +5,7 @@ use Rattle.agree.proofs.call_by.Goals as goal
 use Rattle.agree.proofs.call_by.Goals.{in-0-to-127, in_default}
 
 pub returns : goal.returns
-returns g c = elim c.if-b-lt128.branch [
+returns c = elim c.if-b-lt128.branch [
   | in-0-to-127 w ↦ let low : c.args.b < 128 = omega arith in rw (lt-ltb _ _ low, w.party-is) w.step_on.ensures.0
   | in_default w ↦ let high : 128 ≤ c.args.b = omega arith in rw (le-ltb _ _ high, w.party-is) w.stop_on.ensures.0
 ]
