@@ -1,7 +1,7 @@
 // The rows of a sheet and the reader that goes from one to the next.
-ghost use Rattle.std.specs.Prelude.{◌≡◌, ◌+◌, ◌-◌, ◌*◌, ◌<◌, ◌≤◌, min, IfSome, length, take, drop};
+ghost use Rattle.std.specs.Prelude.{⊤, ◌≡◌, cond, eqb, ◌+◌, ◌-◌, ◌*◌, ◌<◌, ◌≤◌, min, IfSome, length, take, drop};
 ghost use Rattle.std.specs.Option.{unwrap_or};
-ghost use Rattle.std.specs.Iterator.{at_most, YieldsFirst};
+ghost use Rattle.std.specs.Iterator.{at_most, YieldsFirst, MakesProgress};
 ghost use Rattle.sheet.specs.Sizes.{header_length, row_length, most_rows};
 ghost use Rattle.sheet.specs.Reader.{row_or_none, whole_rows, rows_on};
 ghost use Rattle.sheet.specs.Rows.{slot, slot_after, row_count, is_top, sheet_length, row_from, row_at, taken, row_place, row_of};
@@ -263,7 +263,14 @@ impl<'a> Iterator for Rows<'a> {
 
     ghost remaining = { λ r. at_most r.left };
 
-    fn next(&mut self) -> Option<(Slot, Row)> {
+    fn next(&mut self) -> Option<(Slot, Row)>
+        ensures steps { YieldsFirst rows_left self.old result self.new }
+        ensures goes { MakesProgress (λ _. ⊤) (λ r. at_most r.left) self.old result self.new }
+        ensures sheet { self.new.reader.sheet ≡ self.old.reader.sheet }
+        ensures place { self.new.reader.row ≡ self.old.reader.row + min self.old.left 1 }
+        ensures slot { self.new.slot ≡ cond (eqb self.old.left 0) self.old.slot (slot_after self.old.slot) }
+        ensures left { self.new.left ≡ self.old.left - 1 }
+    {
         if self.left == 0 {
             return None;
         }
