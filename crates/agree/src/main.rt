@@ -55,8 +55,7 @@ fn main(rt: HostRuntime) -> io::Result<()> {
     let mut lines = Lines::new(rt);
     let mut sheet = [0u8; SHEET];
     let _ = builder::build(1, 5, PARTIES, &mut sheet);
-    let opened =
-        opening::open_value(&sheet, &[500, 600, 700]).unwrap_or_else(|_| Session::blank());
+    let opened = opening::open_value(&sheet, &[500, 600, 700]).unwrap_or_else(|_| Session::blank());
     let first = call_all(&mut lines, opened, &[1, 1, 2, 3, 3, 130]);
     live(&mut lines, first);
     let last = call_all(

@@ -1,8 +1,7 @@
 // What is printed.
 use answers::Refusal;
 use state::{Party, Status};
-use std::fmt;
-use std::io;
+use std::{fmt, io};
 
 // Standard output, and the first line that failed to be written; nothing is written after that one. So the calls need no error of their own.
 #[derive(Drop)]
@@ -47,7 +46,7 @@ impl fmt::Display for Told {
     }
 }
 
-// A party's line: its number, status, own steps, and decision or a dash.
+// A party's line: its number, status, own steps, and decision or a dash. The lister has one of a record's bytes, whose text is proved; this one is of a session's entry.
 #[derive(Clone, Copy)]
 pub(crate) struct Line {
     pub(crate) number: u32,

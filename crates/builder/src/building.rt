@@ -183,6 +183,7 @@ impl Numbers {
         ensures { out.new ≡ built_sheet (kind_number self.kind) self.bound self.parties ++ drop (sheet_length self.parties) out.old }
     {
         self.put_header(out);
+        // The slot goes along by hand: rows with their slots come of a sheet that is there.
         let mut p = Slot::first();
         for k in 0..rows::row_count(self.parties) {
             let at = HEADER_LENGTH + ROW_LENGTH * k;

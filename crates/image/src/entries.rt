@@ -42,6 +42,7 @@ pub(crate) fn put_all<T: Entry, const N: usize>(o: &mut [u8], entries: &[T; N])
     requires { T.LENGTH * N ≤ length o.old }
     ensures { o.new ≡ entries_bytes T.image entries.now ++ drop (T.LENGTH * N) o.old }
 {
+    // Each entry is put through a part that starts where it stands, as a record's parties are.
     for (j, entry) in entries.iter().enumerate() {
         entry.put(&mut o[T::LENGTH * j..]);
     }

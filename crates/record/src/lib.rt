@@ -33,7 +33,7 @@ pub fn record_length(n: u8) -> usize
     HEAD_LENGTH + PARTY_LENGTH * usize::from(n)
 }
 
-// The record's first four bytes.
+// The record's first four bytes. That n is at most 16 is tested once, by `put_record`.
 fn put_head(o: &mut [u8], n: u8)
     requires { (n ≤ most_parties) × (head_length ≤ length o.old) }
     ensures { o.new ≡ record_head n ++ drop head_length o.old }

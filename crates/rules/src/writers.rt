@@ -47,7 +47,7 @@ fn ascends(rows: Rows) -> bool
         .ok
 }
 
-// A row beside another party's row of the same round.
+// A row beside another party's row of the same round. A slot and its row go as the pair that `Rows` yields, here and below.
 fn is_beside(slot: Slot, row: Row, party: usize, other: Row) -> bool
     ensures { result ≡ beside slot.round slot.party row party other }
 {

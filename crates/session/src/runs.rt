@@ -12,7 +12,7 @@ use answers::Refusal;
 use sheet::sizes::{MOST_PARTIES, MOST_UNITS, PARTIES_AT};
 use state::{CELLS, Party, Status, opening};
 
-// Whether a schedule byte is a step or a stop of one of n parties, by its party alone: no branch on which of the two it is.
+// Whether a schedule byte is a step or a stop of one of n parties, by its party alone: no branch on which of the two it is. n is an accepted sheet's, so at most 16.
 fn byte_ok(n: u8, b: u8) -> bool
     requires { n ≤ most_parties }
     ensures { result ≡ byte_ok n b }

@@ -6,6 +6,7 @@ pub const HEADER_LENGTH: usize = 8;
 
 pub const LENGTH_AT: usize = 0;
 
+// The second of a number's two bytes has a place with a name too, where the number is read alone.
 pub const LENGTH_LOW_AT: usize = 1;
 
 pub const VERSION_AT: usize = 2;
