@@ -26,7 +26,7 @@ use Rattle.record.specs.Record.{record_length, record_bytes}
 use Rattle.record.proofs.Records.{length_record}
 use Rattle.steps.specs.Calls.{Told, told}
 use Rattle.steps.specs.Run.{byte_ok, run_answer, ran, run_out}
-use Rattle.state.proofs.Copies.{length_range}
+use Rattle.sheet.proofs.Ranges.{length_range}
 use Rattle.image.specs.Image.{session_bytes, session_of}
 use Rattle.host.specs.Calls.{proposals_for, host_open, open_bytes, on_session, bytes_after}
 use Rattle.host.specs.Says.{Leaves, SamePast}

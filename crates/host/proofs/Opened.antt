@@ -16,7 +16,7 @@ use Rattle.rules.specs.Check.{check_answer}
 use Rattle.sheet.proofs.Folds.{held, failed}
 use Rattle.state.specs.Opening.{open_answer}
 use Rattle.state.proofs.FormWords.{accepted_says}
-use Rattle.state.proofs.Copies.{length_range}
+use Rattle.sheet.proofs.Ranges.{length_range}
 use Rattle.steps.proofs.RunSays.{check_most}
 use Rattle.image.specs.Image.{proposals_of, proposal_count, proposals_in}
 use Rattle.image.proofs.Counts.{counted}

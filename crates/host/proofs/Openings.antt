@@ -24,7 +24,7 @@ use Rattle.builder.proofs.Givens.{kind_most}
 use Rattle.builder.proofs.Theorems.{built_says}
 use Rattle.state.specs.Session.{fresh_session}
 use Rattle.state.proofs.FormWords.{accepted_says}
-use Rattle.state.proofs.Copies.{length_range, range_at}
+use Rattle.sheet.proofs.Ranges.{length_range, range_at}
 use Rattle.state.proofs.Openings.{opens_when}
 use Rattle.agreement.specs.Demand.{Opens, proposal_of}
 use Rattle.agreement.specs.Statements.{Words}

@@ -10,7 +10,7 @@ use Rattle.sheet.proofs.Numbers.{num_drop}
 use Rattle.state.specs.Session.{no_party, party_of}
 use Rattle.state.specs.declared.kept.Party.{Party}
 use Rattle.state.specs.declared.kept.Session.{Session}
-use Rattle.state.proofs.Copies.{range_at}
+use Rattle.sheet.proofs.Ranges.{range_at}
 use Rattle.agreement.proofs.Readings.{Says}
 use Rattle.image.specs.Image.{party_from, session_bytes, party_place, of_image, Sized}
 use Rattle.image.proofs.Inverse.{decode_encode}

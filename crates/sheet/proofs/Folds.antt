@@ -1,11 +1,10 @@
 -- A fold over a list says what its elements say one by one: inductions over `all`, `any`, `keep`, `first_bad` and `from`.
-use Prim.Native.Nat.{ℕ, zero, suc, ◌+◌, ◌-◌, ◌≤◌, ◌<◌}
+use Prim.Native.Nat.{ℕ, zero, suc, ◌+◌, ◌≤◌, ◌<◌}
 use mathlib.Core.Path.{◌≡◌, refl, sym, ap, ◌∙◌, subst}
 use mathlib.Core.Logic.{◌⊎◌, inl, inr}
 use mathlib.Core.List.{List, [], ◌∷◌, ◌++◌, map}
 use mathlib.Core.Bool.{Bool, true, false, not, ◌&&◌, ◌||◌, cond}
 use native.Mathlib.Nat.{le_refl, eq-or-lt_of_le}
-use native.Mathlib.Numerals.{add-one}
 use native.Mathlib.Omega.{arith}
 use borrow.Author.Tests.{ltb-true, ltb-false}
 use lib.Dec.{T, ltb}
@@ -86,31 +85,6 @@ from_all f a zero g = tt
 from_all f a (suc n) g =
     and_both (f a) (all f (from (suc a) n)) (g a (le_refl a) (omega arith))
     (from_all f (suc a) n (λ k h l. g k (omega arith) (omega arith)))
-
--- ---- a loop over the numbers of a range, at j
-
--- the test of all has come down to the numbers from j on
-abbrev pub Down : (ℕ → Bool) → ℕ → ℕ → ℕ → Type 0
-Down f a n j = all f (from a n) ≡ all f (from j (a + n - j))
-
-pub down_first : (f : ℕ → Bool) (a n : ℕ) → Down f a n a
-down_first f a n = ap (λ (m : ℕ). all f (from a m)) (let e : n ≡ a + n - a = omega arith in e)
-
-module _ (f : ℕ → Bool) (a n j : ℕ) (e : Down f a n j) where
-  here : j < a + n → all f (from a n) ≡ (f j && all f (from (suc j) (a + n - (j + 1))))
-  here h = e ∙ ap (λ (m : ℕ). all f (from j m)) (let o : a + n - j ≡ suc (a + n - (j + 1)) = omega arith in o)
-
-  pub down_on : j < a + n → T (f j) → Down f a n (j + 1)
-  down_on h t =
-      here h
-      ∙ ap (λ (b : Bool). b && all f (from (suc j) (a + n - (j + 1)))) (holds (f j) t)
-      ∙ ap (λ (m : ℕ). all f (from m (a + n - (j + 1)))) (sym (add-one j))
-
-  pub down_here : j < a + n → (T (f j) → ⊥) → all f (from a n) ≡ false
-  down_here h t = here h ∙ ap (λ (b : Bool). b && all f (from (suc j) (a + n - (j + 1)))) (fails (f j) t)
-
-  pub down_end : a + n ≤ j → all f (from a n) ≡ true
-  down_end h = e ∙ ap (λ (m : ℕ). all f (from j m)) (let o : a + n - j ≡ 0 = omega arith in o)
 
 -- ---- some number of a range
 pub any_from : (f : ℕ → Bool) (a n k : ℕ) → a ≤ k → k < a + n → T (f k) → T (any f (from a n))

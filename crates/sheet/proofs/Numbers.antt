@@ -33,10 +33,6 @@ num_read s place n h =
 pub num_two : (s : List ℕ) (place : ℕ) → place + 2 ≤ length s → big (get_or s place 0 ∷ get_or s (place + 1) 0 ∷ []) ≡ num s place 2
 num_two s place h = rw (num_read s place 2 h, add-zero)
 
-pub num_four : (s : List ℕ) (place : ℕ) → place + 4 ≤ length s
-    → big (get_or s place 0 ∷ get_or s (place + 1) 0 ∷ get_or s (place + 2) 0 ∷ get_or s (place + 3) 0 ∷ []) ≡ num s place 4
-num_four s place h = rw (num_read s place 4 h, add-zero)
-
 -- a number of what is left from a place on
 pub num_drop : (s : List ℕ) (place k n : ℕ) → num (drop place s) k n ≡ num s (place + k) n
 num_drop s place k n = ap (λ (l : List ℕ). big_from 0 (take n l)) (drop-drop k place s)

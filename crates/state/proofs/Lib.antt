@@ -6,6 +6,5 @@ pub mod Carried
 pub mod FormWords
 pub mod Filled
 pub mod FromFn
-pub mod Copies
 pub mod Openings
 pub mod Statuses

@@ -47,9 +47,6 @@ module _ (w b : Bool) (value : ℕ) where
   abbrev pub Answer : Told
   Answer = cond w (cond b (told 0 value) (told 10 0)) (told 9 0)
 
-  pub told_9 : w ≡ false → told 9 0 ≡ Answer
-  told_9 e = rw e
-
   pub told_10 : w ≡ true → b ≡ false → told 10 0 ≡ Answer
   told_10 e f = rw (e, f)
 
