@@ -17,7 +17,7 @@ use sheet::sizes::{
 };
 
 // Kind 1: the rows, in the sheet's order.
-const TABLE: [Row; 5] = [
+static TABLE: [Row; 5] = [
     Row {
         start: 2,
         mask: 3,
