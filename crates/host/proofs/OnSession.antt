@@ -51,7 +51,7 @@ module _ (bytes : List ℕ) (tell : Session → Told) where
 -- ---- what is written over the bytes of a session that a call has changed to u
 
 module _ (bytes : List ℕ) (l : length bytes ≡ 3418) where
-  whole : {A : Type 0} {v : A} (x y : A) → v ≡ cond (eqb (length bytes) 3418) x y → v ≡ x
+  pub whole : {A : Type 0} {v : A} (x y : A) → v ≡ cond (eqb (length bytes) 3418) x y → v ≡ x
   whole x y e = e ∙ ap (λ (b : Bool). cond b x y) (eq-eqb (length bytes) 3418 l)
 
   module _ (low : Below 256 bytes) (u : Session) {now : List ℕ} (sheet : u.sheet ≡ (session_of bytes).sheet) (proposals : u.proposals ≡ (session_of bytes).proposals) where

@@ -5,7 +5,6 @@ ghost use Rattle.answers.specs.declared.Refusal.TheVariants as Refusal;
 ghost use Rattle.steps.specs.Calls.{told_of};
 ghost use Rattle.steps.specs.Run.{run_answer};
 ghost use Rattle.image.specs.Sizes.{session_length};
-ghost use Rattle.image.specs.Image.{session_of};
 ghost use Rattle.host.specs.Calls.{host_open, open_bytes, host_step, step_bytes, host_stop, stop_bytes, host_live, last_index, heard, host_run, run_bytes};
 
 use answers::Refusal;
@@ -33,15 +32,14 @@ pub(crate) fn open(sheet: &[u8], proposals: &[u8], session: &mut [u8]) -> Result
     Ok(())
 }
 
-// Reads a session into one that is lent, which takes one session's stack and not two; 9 where the bytes are of another length.
-fn read(bytes: &[u8], s: &mut Session) -> Result<(), Refusal>
+// 9 where the bytes are of another length than a session's: asked before there is a session to read them into.
+fn sized(bytes: &[u8]) -> Result<(), Refusal>
     ensures refused { IfErr result (λ r. (r ≡ Refusal.Session) × (length bytes.now ≢ session_length)) }
-    ensures read { OnOk result ((length bytes.now ≡ session_length) × (s.new ≡ session_of bytes.now)) }
+    ensures length { OnOk result (length bytes.now ≡ session_length) }
 {
     if bytes.len() != SESSION_LENGTH {
         return Err(Refusal::Session);
     }
-    image::read(bytes, s);
     Ok(())
 }
 
@@ -50,8 +48,9 @@ pub(crate) fn step(session: &mut [u8], party: u32) -> Result<u8, Refusal>
     ensures reply { told_of result ≡ host_step session.old party }
     ensures session_after { session.new ≡ step_bytes session.old party }
 {
+    sized(session)?;
     let mut s = Session::blank();
-    read(session, &mut s)?;
+    image::read(session, &mut s);
     let place = stepping::step_in(&mut s, party)?;
     image::write_acted(&s, session);
     Ok(place)
@@ -62,8 +61,9 @@ pub(crate) fn stop(session: &mut [u8], party: u32) -> Result<u8, Refusal>
     ensures reply { told_of result ≡ host_stop session.old party }
     ensures session_after { session.new ≡ stop_bytes session.old party }
 {
+    sized(session)?;
     let mut s = Session::blank();
-    read(session, &mut s)?;
+    image::read(session, &mut s);
     let status = stopping::stop_in(&mut s, party)?;
     image::write_parties(&s, session);
     Ok(status)
@@ -73,8 +73,9 @@ pub(crate) fn stop(session: &mut [u8], party: u32) -> Result<u8, Refusal>
 pub(crate) fn live(session: &[u8]) -> Result<u8, Refusal>
     ensures { told_of result ≡ host_live session.now }
 {
+    sized(session)?;
     let mut s = Session::blank();
-    read(session, &mut s)?;
+    image::read(session, &mut s);
     stopping::live_in(&s)
 }
 
