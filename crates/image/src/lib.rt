@@ -6,7 +6,7 @@ mod parties;
 pub mod proposals;
 mod sizes;
 
-ghost use Rattle.std.specs.Prelude.{◌≡◌, ◌++◌, cond, ◌&&◌, ◌≤◌, length, take, replicate, eqb, leb};
+ghost use Rattle.std.specs.Prelude.{◌≡◌, ◌++◌, cond, ◌&&◌, ◌≤◌, length, take, drop, replicate, eqb, leb};
 ghost use Rattle.sheet.specs.Sizes.{most_parties, most_units, most_sheet};
 ghost use Rattle.state.specs.Sizes.{cells};
 ghost use Rattle.image.specs.Sizes.{session_length, marks_at, entries_at};
@@ -19,6 +19,7 @@ pub use sizes::SESSION_LENGTH;
 use state::{Party, Session};
 
 // The length is asked of any slice in the four public functions, and known in those that they call.
+#[inline(always)]
 fn read_whole(bytes: &[u8], s: &mut Session)
     requires { length bytes.now ≡ session_length }
     ensures { s.new ≡ session_of bytes.now }
@@ -31,7 +32,8 @@ fn read_whole(bytes: &[u8], s: &mut Session)
     entries::read_all(&bytes[ENTRIES_AT..], &mut s.parties);
 }
 
-// Reads the session that the bytes say into one that is lent.
+// Reads the session that the bytes say into one that is lent. It is compiled into its callers: there its copies go into a session of their own, and are no call of `memmove`.
+#[inline(always)]
 pub fn read(bytes: &[u8], s: &mut Session)
     ensures { s.new ≡ cond (eqb (length bytes.now) session_length) (session_of bytes.now) s.old }
 {
@@ -67,6 +69,16 @@ pub fn write_parties(s: &Session, bytes: &mut [u8])
     }
 }
 
+// A sheet's bytes, at the start of what is lent. Byte by byte: where both slices are a host's, the library's copy is a call of `memmove`.
+fn put_sheet(sheet: &[u8], o: &mut [u8])
+    requires { length sheet.now ≤ length o.old }
+    ensures { o.new ≡ sheet.now ++ drop (length sheet.now) o.old }
+{
+    for (j, b) in sheet.iter().enumerate() {
+        o[j] = *b;
+    }
+}
+
 fn put_fresh(
     sheet: &[u8],
     proposals: [u32; MOST_PARTIES],
@@ -76,9 +88,8 @@ fn put_fresh(
     requires { (length sheet.now ≤ most_sheet) × (length bytes.old ≡ session_length) }
     ensures { bytes.new ≡ session_bytes (of_parts (filled most_sheet sheet.now) proposals (replicate most_units 0) (replicate cells 0) parties) }
 {
-    let n = sheet.len();
-    bytes[..n].copy_from_slice(sheet);
-    bytes[n..MOST_SHEET].fill(0);
+    put_sheet(sheet, bytes);
+    bytes[sheet.len()..MOST_SHEET].fill(0);
     entries::put_all(&mut bytes[PROPOSALS_AT..], &proposals);
     bytes[MARKS_AT..ENTRIES_AT].fill(0);
     entries::put_all(&mut bytes[ENTRIES_AT..], &parties);

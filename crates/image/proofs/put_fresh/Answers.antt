@@ -24,8 +24,7 @@ returns c =
     let n = length sheet in
     let (few, size) = c.requires in
     let all : length c.args.proposals ≡ 16 = search rules in
-    let copied : Written b sheet n (c.copy_from_slice.new.self ++ drop n b) =
-    record { size = refl; is = ap (λ (z : List ℕ). z ++ drop n b) c.copy_from_slice.ensures.after } in
+    let copied : Written b sheet n c.put_sheet.new.o = record { size = refl; is = c.put_sheet.ensures } in
     let whole : n + (1898 - n) ≡ 1898 = omega arith in
     let sheeted = up_to whole (then_filled copied 0 c.fill.new.self (1898 - n) (omega arith) (c.fill.ensures.after (λ _ e. e))) in
     let proposed = then_lent sheeted (proposals_bytes c.args.proposals) c.put_all.new.o 64 c.put_all.ensures (length_proposals c.args.proposals all) in
