@@ -1,35 +1,44 @@
--- A number is printed with the digits of the text's definition: both are those of its tenth, and the last one.
-use Rattle.std.proofs.Common.{ℕ, suc, ◌≡◌, ◌^◌, ◌<◌, List, ◌∷◌, ◌++◌, rules, refl, sym, append_assoc}
-use Rattle.std.proofs.lemmas.Fmt.{AppendsLastDigit, decimal_from_appends, length-decimal-le_succ}
-use Rattle.std.specs.Fmt as Printed
-use borrow.Author.Tests.{ne_eqb}
-use Rattle.lister.specs.Text.{newline, dash, refused_word, at_word, digits, decimal, counts_line, status_word, party_line, refused_text}
+-- A number's digits are those of its tenth and its last one, however much fuel there is above the number; so their number goes up with the powers of ten.
+use Prim.Native.Nat.{ℕ, zero, suc, ◌+◌, ◌/◌, ◌%◌, ◌^◌, ◌≤◌, ◌<◌}
+use mathlib.Core.Path.{◌≡◌, ap, ◌∙◌}
+use mathlib.Core.List.{List, [], ◌∷◌, ◌++◌}
+use mathlib.Core.Logic.{⊎_elim}
+use native.Mathlib.Nat.{pow-succ'}
+use native.Mathlib.Omega.{arith}
+use borrow.Author.Tests.{lt-ltb, le-ltb}
+use lib.ListN.{length, length-append}
+use Rattle.sheet.proofs.Folds.{lt_or_le}
+use Rattle.lister.specs.Text.{digits, decimal}
 
-last_behind : AppendsLastDigit digits
-last_behind = search rules
+fuel : (f g n : ℕ) → n < f → n < g → digits f n ≡ digits g n
+fuel zero g n h k = absurd (omega arith)
+fuel (suc f) zero n h k = absurd (omega arith)
+fuel (suc f) (suc g) n h k =
+    ⊎_elim
+    (λ low. simp (lt-ltb n 10 low))
+    (λ high. simp (le-ltb n 10 high) (ap (λ (l : List ℕ). l ++ ((48 + n % 10) ∷ [])) (fuel f g (n / 10) (omega arith) (omega arith))))
+    (lt_or_le n 10)
 
-pub printed : (n : ℕ) → n < 2 ^ 64 → Printed.decimal n ≡ decimal n
+pub decimal_low : (n : ℕ) → n < 10 → decimal n ≡ (48 + n) ∷ []
 unfolding decimal
-printed n h = sym (decimal_from_appends digits last_behind (suc n) n h (search (rules, length-decimal-le_succ n h)))
+decimal_low n h = simp (lt-ltb n 10 h)
 
--- a line of two words, each with a number behind it
-pub counts_printed : (v w : List ℕ) (x y : ℕ) → x < 2 ^ 64 → y < 2 ^ 64 → counts_line v x w y ≡ v ++ (Printed.decimal x ++ (w ++ (Printed.decimal y ++ newline)))
-unfolding counts_line
-counts_printed v w x y hx hy = rw (printed x hx, printed y hy) refl
+pub decimal_high : (n : ℕ) → 10 ≤ n → decimal n ≡ decimal (n / 10) ++ ((48 + n % 10) ∷ [])
+unfolding decimal
+decimal_high n h = simp (le-ltb n 10 h) (ap (λ (l : List ℕ). l ++ ((48 + n % 10) ∷ [])) (fuel n (suc (n / 10)) (n / 10) (omega arith) (omega arith)))
 
--- the line of a refusal
-pub refused_printed : (number position : ℕ) → number < 2 ^ 64 → position < 2 ^ 64
-    → refused_text number position ≡ refused_word ++ (Printed.decimal number ++ (at_word ++ (Printed.decimal position ++ newline)))
-unfolding refused_text
-refused_printed number position hn hp = counts_printed refused_word at_word number position hn hp
+-- ---- how many there are
 
--- a party's line, with its decision or a dash
-pub decided_printed : (party status steps decision : ℕ) → party < 2 ^ 64 → steps < 2 ^ 64 → decision < 2 ^ 64 → status ≡ 2
-    → party_line party status steps decision ≡ Printed.decimal party ++ (32 ∷ (status_word status ++ (32 ∷ (Printed.decimal steps ++ (32 ∷ (Printed.decimal decision ++ newline))))))
-unfolding party_line
-decided_printed party status steps decision hp hs hd is = rw (printed party hp, printed steps hs, printed decision hd, is) (simp append_assoc refl)
+pub length_low : (n : ℕ) → n < 10 → length (decimal n) ≡ 1
+length_low n h = ap length (decimal_low n h)
 
-pub undecided_printed : (party status steps decision : ℕ) → party < 2 ^ 64 → steps < 2 ^ 64 → (status ≡ 2 → ⊥)
-    → party_line party status steps decision ≡ Printed.decimal party ++ (32 ∷ (status_word status ++ (32 ∷ (Printed.decimal steps ++ (32 ∷ (dash ++ newline))))))
-unfolding party_line
-undecided_printed party status steps decision hp hs is = rw (printed party hp, printed steps hs, ne_eqb status 2 is) (simp append_assoc refl)
+pub length_high : (n : ℕ) → 10 ≤ n → length (decimal n) ≡ length (decimal (n / 10)) + 1
+length_high n h = ap length (decimal_high n h) ∙ length-append (decimal (n / 10)) ((48 + n % 10) ∷ [])
+
+pub length_decimal : (k n : ℕ) → n < 10 ^ suc k → length (decimal n) ≤ suc k
+length_decimal zero n h = omega (arith, length_low n (omega arith))
+length_decimal (suc k) n h =
+    ⊎_elim
+    (λ low. omega (arith, length_low n low))
+    (λ high. omega (arith, length_high n high, length_decimal k (n / 10) (omega (arith, pow-succ' 10 (suc k)))))
+    (lt_or_le n 10)

@@ -1,12 +1,10 @@
 -- What a schedule is listed as: the builder's sheet of kind 1 for B = 3 and N = 2, proposals 500 and 600.
-use Rattle.std.specs.Prelude.{ℕ, List, [], ◌∷◌, cond, length, replicate, eqb, Result, Ok, Err}
-use Rattle.answers.specs.Answers.{Answer, number_of, position_of}
-use Rattle.answers.specs.declared.Refusal.{Refusal}
+use Rattle.std.specs.Prelude.{ℕ, List, [], ◌∷◌, cond, length, replicate, eqb}
+use Rattle.answers.specs.Answers.{Answer}
 use Rattle.builder.specs.Build.{built_sheet}
 use Rattle.record.specs.Record.{record_length}
 use Rattle.steps.specs.Run.{run_answer, run_out}
 use Rattle.lister.specs.Text.{listing, refused_text}
-use Rattle.lister.specs.declared.text.Listing.{Listing}
 
 abbrev pub proposals : List ℕ
 proposals = 500 ∷ 600 ∷ []
@@ -22,9 +20,3 @@ unfoldable pub listed : List ℕ → List ℕ
 listed schedule =
     cond (eqb (answered schedule).number 0) (listing (recorded schedule) (length schedule))
     (refused_text (answered schedule).number (answered schedule).position)
-
--- ---- the value that is printed
-
-abbrev pub outcome_text : Result Listing Refusal → List ℕ
-outcome_text (Ok l) = listing l.bytes l.entries
-outcome_text (Err r) = refused_text (number_of r) (position_of r)

@@ -1,42 +1,28 @@
 // The text of a schedule's run: kind 1, B = 3, N = 2, proposals 500 and 600.
-ghost use Rattle.std.specs.Prelude.{◌≡◌, Some};
-ghost use Rattle.lister.specs.Listed.{listed, outcome_text};
+ghost use Rattle.std.specs.Prelude.{◌≡◌, ◌++◌, ◌≤◌, length, drop};
+ghost use Rattle.lister.specs.Listed.{listed};
 
-use crate::text::{Listing, RECORD};
-use answers::Refusal;
+use crate::text;
+use record::{HEAD_LENGTH, PARTY_LENGTH};
 use session::runs;
 use sheet::sizes::{HEADER_LENGTH, ROW_LENGTH};
-use std::fmt;
 
-// The sheet of two parties.
+// The sheet of two parties, and the record.
 const SHEET: usize = HEADER_LENGTH + 2 * ROW_LENGTH;
 
-// What a schedule is listed as: the text of its run's record, or the line of its refusal.
-#[derive(Drop)]
-pub(crate) struct Listed(Result<Listing, Refusal>);
+const RECORD: usize = HEAD_LENGTH + 2 * PARTY_LENGTH;
 
-impl fmt::Display for Listed {
-    ghost output = { λ l. Some (outcome_text l.0) };
-
-    #[tactic(auto, using(crate::proofs::Decimals::refused_printed))]
-    fn fmt<W: fmt::Write>(&self, f: &mut fmt::Formatter<W>) -> fmt::Result {
-        match &self.0 {
-            Ok(listing) => write!(f, "{listing}"),
-            Err(refusal) => writeln!(f, "refused {} at {}", refusal.number(), refusal.position()),
-        }
-    }
-}
-
-// Runs a schedule.
-pub(crate) fn list(schedule: &[u8]) -> Listed
-    ensures { outcome_text result.0 ≡ listed schedule.now }
+// Runs a schedule, and puts the text at the front of out; bytes past it keep their content.
+pub(crate) fn list(schedule: &[u8], out: &mut [u8]) -> usize
+    requires { 512 ≤ length out.old }
+    ensures value { result ≡ length (listed schedule.now) }
+    ensures out_after { out.new ≡ listed schedule.now ++ drop (length (listed schedule.now)) out.old }
 {
     let mut layout = [0u8; SHEET];
     let _ = builder::build(1, 3, 2, &mut layout);
     let mut bytes = [0u8; RECORD];
-    let entries = schedule.len();
     match runs::run(&layout, &[500, 600], schedule, &mut bytes) {
-        Ok(()) => Listed(Ok(Listing { bytes, entries })),
-        Err(refusal) => Listed(Err(refusal)),
+        Ok(()) => text::put_listing(out, &bytes, schedule.len()),
+        Err(refusal) => text::put_refused(out, refusal.number(), refusal.position()),
     }
 }

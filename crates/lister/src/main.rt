@@ -31,5 +31,7 @@ fn fill<R: Read>(input: &mut R, buffer: &mut [u8]) -> io::Result<usize>
 fn main(rt: HostRuntime) -> io::Result<()> {
     let mut schedule = [0u8; 4096];
     let n = fill(&mut rt.stdin(), &mut schedule)?;
-    rt.print(listing::list(&schedule[..n]))
+    let mut out = [0u8; 512];
+    let len = listing::list(&schedule[..n], &mut out);
+    rt.write_all(&out[..len])
 }

@@ -1,91 +1,152 @@
-// The text of a run: what its values print.
-ghost use Rattle.std.specs.Prelude.{◌≡◌, get_or, Some};
+// The text of a run, written into a lent buffer.
+ghost use Rattle.std.specs.Prelude.{◌≡◌, [], ◌∷◌, ◌++◌, ◌+◌, ◌≤◌, length, drop};
 ghost use Rattle.sheet.specs.Bytes.{num};
-ghost use Rattle.record.specs.Record.{parties_in, steps_at, decision_at};
-ghost use Rattle.state.specs.StatusNames.{word_of};
-ghost use Rattle.lister.specs.Text.{status_word, party_line, listing};
+ghost use Rattle.sheet.specs.Sizes.{most_parties};
+ghost use Rattle.record.specs.Record.{record_length, parties_in};
+ghost use Rattle.lister.specs.Text.{newline, space, status_word, decimal, counts_line, decision_word, party_line};
+ghost use Rattle.lister.specs.Text.{record_line, listing, refused_text, Put};
 
-use record::{HEAD_LENGTH, PARTY_LENGTH};
 use state::Status;
-use std::fmt;
 
-// The record of two parties.
-pub(crate) const RECORD: usize = HEAD_LENGTH + 2 * PARTY_LENGTH;
-
-// The status of this number; a record has no other numbers than 0 to 3.
-fn status_of(number: u8) -> Status
-    ensures { word_of result ≡ status_word number }
+// Puts a word at a place; answers the place behind it.
+fn put_word(out: &mut [u8], at: usize, word: &[u8]) -> usize
+    requires { at + length word.now ≤ length out.old }
+    ensures { Put out.old at word.now out.new result }
 {
-    Status::try_from(number).unwrap_or(Status::Stopped)
+    let mut j = 0;
+    while j < word.len() {
+        out[at + j] = word[j];
+        j += 1;
+    }
+    at + j
 }
 
-// A party's line: its number, status and own steps, and the decision of a party that has decided, or a dash.
-#[derive(Clone, Copy)]
-struct Line {
+// Puts a number's decimal digits: all but the last, and the last behind them.
+fn put_decimal(out: &mut [u8], at: usize, n: usize) -> usize
+    requires { at + length (decimal n) ≤ length out.old }
+    ensures { Put out.old at (decimal n) out.new result }
+{
+    if n < 10 {
+        out[at] = 48 + n as u8;
+        return at + 1;
+    }
+    let next = put_decimal(out, at, n / 10);
+    out[next] = 48 + (n % 10) as u8;
+    next + 1
+}
+
+// Puts a number and one byte behind it.
+fn put_number(out: &mut [u8], at: usize, n: usize, end: u8) -> usize
+    requires { at + length (decimal n ++ (end ∷ [])) ≤ length out.old }
+    ensures { Put out.old at (decimal n ++ (end ∷ [])) out.new result }
+{
+    let next = put_decimal(out, at, n);
+    out[next] = end;
+    next + 1
+}
+
+// Puts a status word and a space.
+fn put_status(out: &mut [u8], at: usize, status: u8) -> usize
+    requires { at + length (status_word status ++ space) ≤ length out.old }
+    ensures { Put out.old at (status_word status ++ space) out.new result }
+{
+    match status {
+        Status::IDLE => put_word(out, at, b"idle "),
+        Status::RUNNING => put_word(out, at, b"running "),
+        Status::DECIDED => put_word(out, at, b"decided "),
+        _ => put_word(out, at, b"stopped "),
+    }
+}
+
+// Puts the decision of a party that has decided, or a dash, and ends the line.
+fn put_decision(out: &mut [u8], at: usize, status: u8, decision: usize) -> usize
+    requires { at + length (decision_word status decision ++ newline) ≤ length out.old }
+    ensures { Put out.old at (decision_word status decision ++ newline) out.new result }
+{
+    if status == Status::DECIDED {
+        put_number(out, at, decision, b'\n')
+    } else {
+        put_word(out, at, b"-\n")
+    }
+}
+
+// A line of two words, each with a number behind it, at the front of out.
+fn put_counts(out: &mut [u8], v: &[u8], x: usize, w: &[u8], y: usize) -> usize
+    requires { length (counts_line v.now x w.now y) ≤ length out.old }
+    ensures { Put out.old 0 (counts_line v.now x w.now y) out.new result }
+{
+    let a = put_word(out, 0, v);
+    let b = put_decimal(out, a, x);
+    let c = put_word(out, b, w);
+    put_number(out, c, y, b'\n')
+}
+
+// A party's line.
+fn put_line(
+    out: &mut [u8],
+    at: usize,
     party: usize,
     status: u8,
-    steps: u16,
-    decision: u32,
+    steps: usize,
+    decision: usize,
+) -> usize
+    requires { at + length (party_line party status steps decision) ≤ length out.old }
+    ensures { Put out.old at (party_line party status steps decision) out.new result }
+{
+    let a = put_number(out, at, party, b' ');
+    let b = put_status(out, a, status);
+    let c = put_number(out, b, steps, b' ');
+    put_decision(out, c, status, decision)
 }
 
-impl Line {
-    // What a party's bytes of a record say.
-    fn of(party: usize, bytes: [u8; PARTY_LENGTH]) -> Line
-        ensures party { result.party ≡ party }
-        ensures status { result.status ≡ get_or bytes 0 0 }
-        ensures steps { result.steps ≡ num bytes steps_at 2 }
-        ensures decision { result.decision ≡ num bytes decision_at 4 }
-    {
-        let [status, a, b, c, d, e, f] = bytes;
-        Line {
-            party,
-            status,
-            steps: u16::from_be_bytes([a, b]),
-            decision: u32::from_be_bytes([c, d, e, f]),
-        }
+// The number of some bytes, big-endian.
+fn number(bytes: &[u8], at: usize, n: usize) -> usize
+    requires { (at + n ≤ length bytes.now) × (n ≤ 4) }
+    ensures { result ≡ num bytes.now at n }
+{
+    let mut whole: usize = 0;
+    let mut j = 0;
+    while j < n {
+        let b = bytes[at + j] as usize;
+        whole = whole * 256 + b;
+        j += 1;
     }
+    whole
 }
 
-impl fmt::Display for Line {
-    ghost output = { λ l. Some (party_line l.party l.status l.steps l.decision) };
+// The line of the party after k others.
+fn put_party(out: &mut [u8], at: usize, bytes: &[u8], k: usize) -> usize
+    requires { (record_length (k + 1) ≤ length bytes.now) × (at + length (record_line bytes.now k) ≤ length out.old) }
+    ensures { Put out.old at (record_line bytes.now k) out.new result }
+{
+    let place = record::HEAD_LENGTH + record::PARTY_LENGTH * k;
+    let status = bytes[place];
+    let steps = number(bytes, place + record::STEPS_AT, 2);
+    let decision = number(bytes, place + record::DECISION_AT, 4);
+    put_line(out, at, k + 1, status, steps, decision)
+}
 
-    #[tactic(auto, using(crate::proofs::Decimals::decided_printed, crate::proofs::Decimals::undecided_printed))]
-    fn fmt<W: fmt::Write>(&self, f: &mut fmt::Formatter<W>) -> fmt::Result {
-        let Line {
-            party,
-            status,
-            steps,
-            decision,
-        } = *self;
-        let word = status_of(status);
-        if status == Status::DECIDED {
-            writeln!(f, "{party} {word} {steps} {decision}")
-        } else {
-            writeln!(f, "{party} {word} {steps} -")
-        }
+// The text of a record, at the front of out, which has room for 16 parties; bytes past it keep their content.
+pub(crate) fn put_listing(out: &mut [u8], bytes: &[u8], entries: usize) -> usize
+    requires { (parties_in bytes.now ≤ most_parties) × (record_length (parties_in bytes.now) ≤ length bytes.now) × (512 ≤ length out.old) }
+    ensures value { result ≡ length (listing bytes.now entries) }
+    ensures out_after { out.new ≡ listing bytes.now entries ++ drop (length (listing bytes.now entries)) out.old }
+{
+    let n = bytes[record::PARTIES_AT] as usize;
+    let mut at = put_counts(out, b"parties ", n, b" entries ", entries);
+    let mut k = 0;
+    while k < n {
+        at = put_party(out, at, bytes, k);
+        k += 1;
     }
+    at
 }
 
-// The text of a record of two parties: a line with their number and the schedule's length, and each party's line.
-#[derive(Drop)]
-pub(crate) struct Listing {
-    pub(crate) bytes: [u8; RECORD],
-    pub(crate) entries: usize,
-    ghost parties: { parties_in bytes ≡ 2 },
-}
-
-impl fmt::Display for Listing {
-    ghost output = { λ l. Some (listing l.bytes l.entries) };
-
-    #[tactic(auto, using(crate::proofs::Decimals::counts_printed, std::proofs::lemmas::Grind::common_steps), unfolding(crate::specs::Text::listing))]
-    fn fmt<W: fmt::Write>(&self, f: &mut fmt::Formatter<W>) -> fmt::Result {
-        let (parties, _) = self.bytes[HEAD_LENGTH..].as_chunks::<PARTY_LENGTH>();
-        let n = parties.len();
-        let entries = self.entries;
-        writeln!(f, "parties {n} entries {entries}")?;
-        for (k, bytes) in parties.iter().enumerate() {
-            write!(f, "{}", Line::of(k + 1, *bytes))?;
-        }
-        Ok(())
-    }
+// The line of a refusal, likewise.
+pub(crate) fn put_refused(out: &mut [u8], number: u8, position: usize) -> usize
+    requires { 512 ≤ length out.old }
+    ensures value { result ≡ length (refused_text number position) }
+    ensures out_after { out.new ≡ refused_text number position ++ drop (length (refused_text number position)) out.old }
+{
+    put_counts(out, b"refused ", number as usize, b" at ", position)
 }
