@@ -1,7 +1,6 @@
 -- Laws that several proofs cite; each file says its argument in its first line.
 pub mod Placing
 pub mod Decimals
-pub mod Read
 pub mod Going
 pub mod Short
 pub mod Outcomes

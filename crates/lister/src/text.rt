@@ -2,10 +2,11 @@
 ghost use Rattle.std.specs.Prelude.{◌≡◌, [], ◌∷◌, ◌++◌, ◌+◌, ◌≤◌, length, drop};
 ghost use Rattle.sheet.specs.Bytes.{num};
 ghost use Rattle.sheet.specs.Sizes.{most_parties};
-ghost use Rattle.record.specs.Record.{record_length, parties_in};
+ghost use Rattle.record.specs.Record.{record_length, party_length, parties_in, steps_at, decision_at};
 ghost use Rattle.lister.specs.Text.{newline, space, status_word, decimal, counts_line, decision_word, party_line};
 ghost use Rattle.lister.specs.Text.{record_line, listing, refused_text, Put};
 
+use record::{DECISION_AT, HEAD_LENGTH, PARTIES_AT, PARTY_LENGTH, STEPS_AT};
 use state::Status;
 
 // Puts a word at a place; answers the place behind it.
@@ -13,12 +14,9 @@ fn put_word(out: &mut [u8], at: usize, word: &[u8]) -> usize
     requires { at + length word.now ≤ length out.old }
     ensures { Put out.old at word.now out.new result }
 {
-    let mut j = 0;
-    while j < word.len() {
-        out[at + j] = word[j];
-        j += 1;
-    }
-    at + j
+    let next = at + word.len();
+    out[at..next].copy_from_slice(word);
+    next
 }
 
 // Puts a number's decimal digits: all but the last, and the last behind them.
@@ -27,11 +25,11 @@ fn put_decimal(out: &mut [u8], at: usize, n: usize) -> usize
     ensures { Put out.old at (decimal n) out.new result }
 {
     if n < 10 {
-        out[at] = 48 + n as u8;
+        out[at] = b'0' + n as u8;
         return at + 1;
     }
     let next = put_decimal(out, at, n / 10);
-    out[next] = 48 + (n % 10) as u8;
+    out[next] = b'0' + (n % 10) as u8;
     next + 1
 }
 
@@ -59,12 +57,12 @@ fn put_status(out: &mut [u8], at: usize, status: u8) -> usize
 }
 
 // Puts the decision of a party that has decided, or a dash, and ends the line.
-fn put_decision(out: &mut [u8], at: usize, status: u8, decision: usize) -> usize
+fn put_decision(out: &mut [u8], at: usize, status: u8, decision: u32) -> usize
     requires { at + length (decision_word status decision ++ newline) ≤ length out.old }
     ensures { Put out.old at (decision_word status decision ++ newline) out.new result }
 {
     if status == Status::DECIDED {
-        put_number(out, at, decision, b'\n')
+        put_number(out, at, decision as usize, b'\n')
     } else {
         put_word(out, at, b"-\n")
     }
@@ -82,36 +80,32 @@ fn put_counts(out: &mut [u8], v: &[u8], x: usize, w: &[u8], y: usize) -> usize
 }
 
 // A party's line.
-fn put_line(
-    out: &mut [u8],
-    at: usize,
-    party: usize,
-    status: u8,
-    steps: usize,
-    decision: usize,
-) -> usize
+fn put_line(out: &mut [u8], at: usize, party: usize, status: u8, steps: u16, decision: u32) -> usize
     requires { at + length (party_line party status steps decision) ≤ length out.old }
     ensures { Put out.old at (party_line party status steps decision) out.new result }
 {
     let a = put_number(out, at, party, b' ');
     let b = put_status(out, a, status);
-    let c = put_number(out, b, steps, b' ');
+    let c = put_number(out, b, usize::from(steps), b' ');
     put_decision(out, c, status, decision)
 }
 
-// The number of some bytes, big-endian.
-fn number(bytes: &[u8], at: usize, n: usize) -> usize
-    requires { (at + n ≤ length bytes.now) × (n ≤ 4) }
-    ensures { result ≡ num bytes.now at n }
+// The own steps of the party whose bytes stand at a place.
+fn steps_from(bytes: &[u8], place: usize) -> u16
+    requires { place + party_length ≤ length bytes.now }
+    ensures { result ≡ num bytes.now (place + steps_at) 2 }
 {
-    let mut whole: usize = 0;
-    let mut j = 0;
-    while j < n {
-        let b = bytes[at + j] as usize;
-        whole = whole * 256 + b;
-        j += 1;
-    }
-    whole
+    let at = place + STEPS_AT;
+    u16::from_be_bytes([bytes[at], bytes[at + 1]])
+}
+
+// Its decision.
+fn decision_from(bytes: &[u8], place: usize) -> u32
+    requires { place + party_length ≤ length bytes.now }
+    ensures { result ≡ num bytes.now (place + decision_at) 4 }
+{
+    let at = place + DECISION_AT;
+    u32::from_be_bytes([bytes[at], bytes[at + 1], bytes[at + 2], bytes[at + 3]])
 }
 
 // The line of the party after k others.
@@ -119,10 +113,10 @@ fn put_party(out: &mut [u8], at: usize, bytes: &[u8], k: usize) -> usize
     requires { (record_length (k + 1) ≤ length bytes.now) × (at + length (record_line bytes.now k) ≤ length out.old) }
     ensures { Put out.old at (record_line bytes.now k) out.new result }
 {
-    let place = record::HEAD_LENGTH + record::PARTY_LENGTH * k;
+    let place = HEAD_LENGTH + PARTY_LENGTH * k;
     let status = bytes[place];
-    let steps = number(bytes, place + record::STEPS_AT, 2);
-    let decision = number(bytes, place + record::DECISION_AT, 4);
+    let steps = steps_from(bytes, place);
+    let decision = decision_from(bytes, place);
     put_line(out, at, k + 1, status, steps, decision)
 }
 
@@ -132,12 +126,10 @@ pub(crate) fn put_listing(out: &mut [u8], bytes: &[u8], entries: usize) -> usize
     ensures value { result ≡ length (listing bytes.now entries) }
     ensures out_after { out.new ≡ listing bytes.now entries ++ drop (length (listing bytes.now entries)) out.old }
 {
-    let n = bytes[record::PARTIES_AT] as usize;
+    let n = bytes[PARTIES_AT] as usize;
     let mut at = put_counts(out, b"parties ", n, b" entries ", entries);
-    let mut k = 0;
-    while k < n {
+    for k in 0..n {
         at = put_party(out, at, bytes, k);
-        k += 1;
     }
     at
 }

@@ -34,18 +34,19 @@ put_status-b-requires c =
 pub put_number-c-requires : goal.put_number-c-requires
 put_number-c-requires c =
     let a = c.args in
-    four_third (numbered a.party) (status_part a.status) (numbered a.steps) (last_part a.status a.decision) (room a.party a.status a.steps a.decision a.at _ c.requires)
+    four_third (numbered a.party) (status_part a.status) (numbered c.from.result) (last_part a.status a.decision) (room a.party a.status c.from.result a.decision a.at _ (rw c.from.ensures c.requires))
     c.put_number-a.ensures c.put_status-b.ensures
 
 pub put_decision-requires : goal.put_decision-requires
 put_decision-requires c =
     let a = c.args in
-    four_fourth (numbered a.party) (status_part a.status) (numbered a.steps) (last_part a.status a.decision) (room a.party a.status a.steps a.decision a.at _ c.requires)
+    four_fourth (numbered a.party) (status_part a.status) (numbered c.from.result) (last_part a.status a.decision) (room a.party a.status c.from.result a.decision a.at _ (rw c.from.ensures c.requires))
     c.put_number-a.ensures c.put_status-b.ensures c.put_number-c.ensures
 
 pub returns : goal.returns
 unfolding party_line
 returns c =
     let a = c.args in
-    four_put (numbered a.party) (status_part a.status) (numbered a.steps) (last_part a.status a.decision) (room a.party a.status a.steps a.decision a.at _ c.requires)
-    c.put_number-a.ensures c.put_status-b.ensures c.put_number-c.ensures c.put_decision.ensures
+    rw c.from.ensures at
+    (four_put (numbered a.party) (status_part a.status) (numbered c.from.result) (last_part a.status a.decision) (room a.party a.status c.from.result a.decision a.at _ (rw c.from.ensures c.requires))
+    c.put_number-a.ensures c.put_status-b.ensures c.put_number-c.ensures c.put_decision.ensures)

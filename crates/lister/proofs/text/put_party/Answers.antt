@@ -4,8 +4,8 @@ use Rattle.lister.proofs.text.put_party.Goals as goal
 
 pub put_line-requires : goal.put_line-requires
 unfolding record_line
-put_line-requires c = rw (c.number-steps.ensures, c.number-decision.ensures) c.requires.1
+put_line-requires c = rw (c.steps_from-steps.ensures, c.decision_from-decision.ensures) c.requires.1
 
 pub returns : goal.returns
 unfolding record_line
-returns c = rw (c.number-steps.ensures, c.number-decision.ensures) at c.put_line.ensures
+returns c = rw (c.steps_from-steps.ensures, c.decision_from-decision.ensures) at c.put_line.ensures
