@@ -140,5 +140,5 @@ pub(crate) fn put_refused(out: &mut [u8], number: u8, position: usize) -> usize
     ensures value { result ≡ length (refused_text number position) }
     ensures out_after { out.new ≡ refused_text number position ++ drop (length (refused_text number position)) out.old }
 {
-    put_counts(out, b"refused ", number as usize, b" at ", position)
+    put_counts(out, b"refused ", usize::from(number), b" at ", position)
 }

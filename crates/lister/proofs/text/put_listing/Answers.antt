@@ -52,14 +52,14 @@ pub put_party-at-requires : goal.put_party-at-requires
 put_party-at-requires c =
     let bytes = c.args.bytes.now in
     let h = room bytes c.args.entries _ (λ i h. omega (arith, c.type_inv.bytes i)) c.requires c.ranges.entries.fits in
-    (omega arith, next_room bytes c.loop-k.k (room_then (others bytes) h c.put_counts-at.ensures) c.loop-k.invariant.2 c.loop-k-test.true)
+    (omega arith, next_room bytes c.loop-k.k (room_then (others bytes) h c.put_counts-at.ensures) c.loop-k.invariant.2 (omega arith))
 
 pub loop-k-preserved : goal.loop-k-preserved
 loop-k-preserved c =
     let bytes = c.args.bytes.now in
     let l = c.loop-k in
     let h = room bytes c.args.entries _ (λ i h. omega (arith, c.type_inv.bytes i)) c.requires c.ranges.entries.fits in
-    let step = lines_step bytes l.k (get_or bytes 3 0) c.loop-k-test.true in (
+    let step = lines_step bytes l.k (get_or bytes 3 0) (omega arith) in (
       omega arith,
       c.put_party-at.auto.out ∙ l.invariant.1,
       going_on (record_line bytes l.k) (room_then (others bytes) h c.put_counts-at.ensures) (rw step at l.invariant.2) c.put_party-at.ensures,
@@ -69,10 +69,10 @@ pub returns-clause-value : goal.returns-clause-value
 returns-clause-value c =
     let bytes = c.args.bytes.now in
     let h = room bytes c.args.entries _ (λ i h. omega (arith, c.type_inv.bytes i)) c.requires c.ranges.entries.fits in
-    (put_front (put_all bytes c.args.entries c.loop-k.k h c.put_counts-at.ensures c.loop-k.invariant.2 c.loop-k-test.false)).0
+    (put_front (put_all bytes c.args.entries c.loop-k.k h c.put_counts-at.ensures c.loop-k.invariant.2 (omega arith))).0
 
 pub returns-clause-out_after : goal.returns-clause-out_after
 returns-clause-out_after c =
     let bytes = c.args.bytes.now in
     let h = room bytes c.args.entries _ (λ i h. omega (arith, c.type_inv.bytes i)) c.requires c.ranges.entries.fits in
-    (put_front (put_all bytes c.args.entries c.loop-k.k h c.put_counts-at.ensures c.loop-k.invariant.2 c.loop-k-test.false)).1
+    (put_front (put_all bytes c.args.entries c.loop-k.k h c.put_counts-at.ensures c.loop-k.invariant.2 (omega arith))).1

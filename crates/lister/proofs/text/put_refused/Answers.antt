@@ -8,13 +8,13 @@ use Rattle.lister.proofs.text.put_refused.Goals as goal
 pub put_counts-requires : goal.put_counts-requires
 unfolding refused_text
 put_counts-requires c =
-    let short = refused_short c.args.number c.args.position (omega arith) (search rules) in
+    let short = refused_short c.from.result c.args.position (omega arith) (search rules) in
     omega arith
 
 pub returns-clause-value : goal.returns-clause-value
 unfolding refused_text
-returns-clause-value c = (put_front c.put_counts.ensures).0
+returns-clause-value c = rw c.from.ensures at (put_front c.put_counts.ensures).0
 
 pub returns-clause-out_after : goal.returns-clause-out_after
 unfolding refused_text
-returns-clause-out_after c = (put_front c.put_counts.ensures).1
+returns-clause-out_after c = rw c.from.ensures at (put_front c.put_counts.ensures).1
