@@ -126,7 +126,7 @@ pub(crate) fn put_listing(out: &mut [u8], bytes: &[u8], entries: usize) -> usize
     ensures value { result ≡ length (listing bytes.now entries) }
     ensures out_after { out.new ≡ listing bytes.now entries ++ drop (length (listing bytes.now entries)) out.old }
 {
-    let n = bytes[PARTIES_AT] as usize;
+    let n = usize::from(bytes[PARTIES_AT]);
     let mut at = put_counts(out, b"parties ", n, b" entries ", entries);
     for k in 0..n {
         at = put_party(out, at, bytes, k);
