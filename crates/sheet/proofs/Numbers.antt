@@ -1,15 +1,15 @@
 -- A number is read from the bytes at its place, one by one, and one that was written is read back, by inductions over how many; a whole row is taken.
 use Prim.Native.Nat.{ℕ, zero, suc, ◌+◌, ◌*◌, ◌/◌, ◌%◌, ◌^◌, ◌≤◌, ◌<◌}
 use mathlib.Core.Path.{◌≡◌, refl, sym, ap, ap₂, ◌∙◌}
-use mathlib.Core.List.{List, [], ◌∷◌, map}
+use mathlib.Core.List.{List, [], ◌∷◌, ◌++◌, map}
 use native.Mathlib.Nat.{add-suc, add-zero, zero-add, add_assoc, add-mul, mul_assoc, mul-one, zero-mul, pow-succ', one-le-pow}
-use native.Mathlib.Nat.{mod-one, mod-eq_of_lt, mul-le-mul_right, lt_of_lt_of_le}
+use native.Mathlib.Nat.{mod-one, mod-eq_of_lt, mul-le-mul, mul-le-mul_right, lt_of_lt_of_le}
 use native.Mathlib.Numerals.{add-one}
 use native.Mathlib.Omega.{arith}
 use borrow.Author.Tests.{lt-ltb, le-leb}
 use lib.Arith.{mod-mul}
-use lib.ListN.{length, get_or, take, drop}
-use lib.Seq.{drop-cons, drop-drop}
+use lib.ListN.{length, get_or, take, drop, length-drop}
+use lib.Seq.{drop-cons, drop-drop, take-add, length-take-le}
 use Rattle.sheet.specs.Lists.{from}
 use Rattle.sheet.specs.Bytes.{big_from, big, num, bytes_of}
 use Rattle.sheet.specs.Rows.{row_at, taken}
@@ -33,6 +33,35 @@ num_read s place n h =
 pub num_two : (s : List ℕ) (place : ℕ) → place + 2 ≤ length s → big (get_or s place 0 ∷ get_or s (place + 1) 0 ∷ []) ≡ num s place 2
 num_two s place h = rw (num_read s place 2 h, add-zero)
 
+pub num_four : (s : List ℕ) (place : ℕ) → place + 4 ≤ length s
+    → big (get_or s place 0 ∷ get_or s (place + 1) 0 ∷ get_or s (place + 2) 0 ∷ get_or s (place + 3) 0 ∷ []) ≡ num s place 4
+num_four s place h = rw (num_read s place 4 h, add-zero)
+
+-- bytes after those of acc
+big_after : (acc : ℕ) (xs : List ℕ) → big_from acc xs ≡ acc * 256 ^ length xs + big_from 0 xs
+big_after acc [] = omega arith
+big_after acc (x ∷ xs) =
+    let p = 256 ^ length xs in
+    let more = big_after (acc * 256 + x) xs in
+    let first = big_after (0 * 256 + x) xs in
+    let weights : (acc * 256 + x) * p ≡ acc * (256 * p) + x * p = add-mul (acc * 256) x p ∙ ap (λ (z : ℕ). z + x * p) (mul_assoc acc 256 p) in
+    let alone : (0 * 256 + x) * p ≡ x * p = ap (λ (z : ℕ). z * p) (zero-add x) in
+    rw pow-succ' (omega arith)
+
+big_append : (acc : ℕ) (xs ys : List ℕ) → big_from acc (xs ++ ys) ≡ big_from (big_from acc xs) ys
+big_append acc [] ys = refl
+big_append acc (x ∷ xs) ys = big_append (acc * 256 + x) xs ys
+
+-- a number in two parts: the first by the weight of the second
+pub num_parts : (s : List ℕ) (place a b : ℕ) → place + a + b ≤ length s → num s place (a + b) ≡ num s place a * 256 ^ b + num s (place + a) b
+num_parts s place a b h =
+    let first = take a (drop place s) in
+    let second = take b (drop (place + a) s) in
+    ap (big_from 0) (take-add a b (drop place s) ∙ ap (λ (l : List ℕ). first ++ take b l) (drop-drop a place s))
+    ∙ big_append 0 first second
+    ∙ big_after (big_from 0 first) second
+    ∙ ap (λ (k : ℕ). big_from 0 first * 256 ^ k + big_from 0 second) (length-take-le b (drop (place + a) s) (simp length-drop (omega arith)))
+
 -- a number of what is left from a place on
 pub num_drop : (s : List ℕ) (place k n : ℕ) → num (drop place s) k n ≡ num s (place + k) n
 num_drop s place k n = ap (λ (l : List ℕ). big_from 0 (take n l)) (drop-drop k place s)
@@ -51,6 +80,10 @@ num_below s place n h low =
     rw (num_read s place n h) (omega arith)
 
 -- ---- rows
+
+-- the product that the number of rows halves is at most that of 255 parties
+pub most : (n : ℕ) → n ≤ 255 → n * (n + 1) ≤ 65280
+most n h = mul-le-mul {n₂ = 255} {m₂ = 256} h (omega arith)
 
 -- a whole row at a place
 pub taken_row : (s : List ℕ) (k : ℕ) → k < 135 → 8 + 14 * k + 14 ≤ length s → taken s k ≡ record { row = row_at s k; next = k + 1 }

@@ -215,7 +215,13 @@ slot_row n p h =
     let g = h.top in
     (record { number = omega arith; first = h.first; lowest = h.lowest; top = h.top }, omega arith)
 
--- ---- a round's rows are within the sheet's
+-- ---- a round's rows, of which the first is row `base`, counted from 0
+
+pub round_number : (p : Slot) (base j : ℕ) → base ≡ row_number p - p.party → row_number (slot p.round j) ≡ base + j
+round_number p base j e =
+    let a = number_tri p in
+    let b = number_tri (slot p.round j) in
+    omega arith
 
 pub round_inside : (n : ℕ) (p : Slot) → IsSlot n p → row_number p - p.party + p.round ≤ row_count n
 round_inside n p h =
