@@ -2,6 +2,7 @@
 use Prim.Native.Nat.{ℕ, ◌≤◌, min}
 use mathlib.Core.Path.{◌≡◌, sym, ap, ◌∙◌}
 use mathlib.Core.List.{List}
+use native.Mathlib.Nat.{min-le_right}
 use native.Mathlib.Omega.{arith, min_cases}
 use lib.ListN.{length, take, length-take}
 use lib.Seq.{take_all, take-length, get_or-take}
@@ -19,6 +20,9 @@ carried_front s =
 
 -- the same front, as the code counts it in a copy of 1,898 bytes
 module _ (s : List ℕ) (size len : ℕ) (long : length s ≡ size) (is : len ≡ min (num s 0 2) size) where
+  pub front_fits : len ≤ length s
+  front_fits = omega (arith, long, is, min-le_right (num s 0 2) size)
+
   pub front_carried : take len s ≡ carried_of s
   front_carried = ap (λ (n : ℕ). take n s) (is ∙ ap (min (num s 0 2)) (sym long)) ∙ carried_front s
 

@@ -79,6 +79,9 @@ module _ (sheet proposals : List ℕ) where
   unfolding opened_at
   opened_fresh e = ap opened_at (sym e)
 
+  pub opened_blank : eqb (open_answer sheet proposals).number 0 ≡ false → fresh_session [] [] 0 ≡ opened sheet proposals
+  opened_blank e = ap (λ (b : Bool). cond b (fresh_session sheet proposals (parties_of sheet)) (fresh_session [] [] 0)) (sym e)
+
 -- any two results that the promise of an open permits are equal: the answer tells which of the two cases it is, and each has one result
 pub one_opening : (t : Answer) (s : Session) (a b : Result Session Refusal) → answer_of a ≡ t → answer_of b ≡ t → session_given a ≡ s → session_given b ≡ s → a ≡ b
 one_opening t s (Ok u) (Ok v) e o f g = ap Ok (f ∙ sym g)
