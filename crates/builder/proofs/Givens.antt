@@ -49,7 +49,7 @@ kind_most r = ⊎_elim (λ e. omega arith) (λ e. omega arith) r.one_or_two
 -- ---- the sheets that there are
 
 -- a sheet of kind 2 has room in each round's word
-word_room : {kind bound n : ℕ} → Given kind bound n → (kind ≡ 1 → ⊥) → 2 * n - 1 ≤ bound
+pub word_room : {kind bound n : ℕ} → Given kind bound n → (kind ≡ 1 → ⊥) → 2 * n - 1 ≤ bound
 word_room g other = ⊎_elim (λ e. absurd (other e)) g.two g.numbers.one_or_two
 
 either_words : {A B : Type 0} {a b : Bool} → Tells a A → Tells b B → Tells (a || b) (A ⊎ B)

@@ -167,3 +167,8 @@ top_mask w r h =
     let start = ap (λ (a : ℕ). mask_of w (from a r)) (let e : w + r - 1 ≡ w + (r - 1) = omega arith in e) in
     let sum = ap (λ (x : ℕ). 2 ^ x) (let e : r - 1 + r ≡ 2 * r - 1 = omega arith in e) in
     omega arith
+
+pub lower_mask : (w r i : ℕ) → 1 ≤ i → mask_of w (own_unit w i ∷ pair_unit w r i ∷ []) ≡ 2 ^ (i - 1) + 2 ^ (r + i - 1)
+lower_mask w r i h =
+    ap₂ (λ (x y : ℕ). 2 ^ x + y) (let e : w + i - 1 - w ≡ i - 1 = omega arith in e)
+    (add-zero (2 ^ (w + r + i - 1 - w)) ∙ ap (λ (x : ℕ). 2 ^ x) (let e : w + r + i - 1 - w ≡ r + i - 1 = omega arith in e))
