@@ -11,15 +11,15 @@ use Rattle.sheet.proofs.Ranges.{length_range, range_at}
 use Rattle.sheet.proofs.InTurn.{stands}
 use Rattle.image.specs.Entries.{entries_bytes, entries_of}
 
-module _ {A : Type 0} (g : A → List ℕ) (h : List ℕ → A) (w : ℕ) where
+module _ {A B : Type 0} (g : A → List B) (h : List B → A) (w : ℕ) where
   -- the part behind part a
-  next : (b : List ℕ) (a : ℕ) → drop w (drop (w * a) b) ≡ drop (w * suc a) b
+  next : (b : List B) (a : ℕ) → drop w (drop (w * a) b) ≡ drop (w * suc a) b
   next b a = drop-drop w (w * a) b ∙ rw mul-suc
 
   -- each element is read back from its part, whatever stands behind it
   pub cut_joined : ((x : A) → length (g x) ≡ w) → (xs : List A) (d : A)
-      → ((k : ℕ) → k < length xs → (r : List ℕ) → h (g (get_or xs k d) ++ r) ≡ get_or xs k d)
-      → (rest : List ℕ) → entries_of h w (length xs) (entries_bytes g xs ++ rest) ≡ xs
+      → ((k : ℕ) → k < length xs → (r : List B) → h (g (get_or xs k d) ++ r) ≡ get_or xs k d)
+      → (rest : List B) → entries_of h w (length xs) (entries_bytes g xs ++ rest) ≡ xs
   cut_joined size xs d back rest =
       let b = entries_bytes g xs ++ rest in
       let read : ℕ → A = λ j. h (drop (w * j) b) in
@@ -33,7 +33,7 @@ module _ {A : Type 0} (g : A → List ℕ) (h : List ℕ → A) (w : ℕ) where
       ∙ back j inside (entries_bytes g (drop (suc j) xs) ++ rest))
 
   -- each part is what its element writes
-  pub joined_cuts : (b : List ℕ) (a n : ℕ) → ((j : ℕ) → j < a + n → g (h (drop (w * j) b)) ≡ take w (drop (w * j) b))
+  pub joined_cuts : (b : List B) (a n : ℕ) → ((j : ℕ) → j < a + n → g (h (drop (w * j) b)) ≡ take w (drop (w * j) b))
       → entries_bytes g (map (λ j. h (drop (w * j) b)) (from a n)) ≡ take (w * n) (drop (w * a) b)
   joined_cuts b a zero same = rw mul-zero
   joined_cuts b a (suc n) same =
