@@ -47,6 +47,9 @@ module _ (w b : Bool) (value : ℕ) where
   abbrev pub Answer : Told
   Answer = cond w (cond b (told 0 value) (told 10 0)) (told 9 0)
 
+  pub told_9 : w ≡ false → told 9 0 ≡ Answer
+  told_9 e = rw e
+
   pub told_10 : w ≡ true → b ≡ false → told 10 0 ≡ Answer
   told_10 e f = rw (e, f)
 
@@ -64,13 +67,17 @@ module _ (s : Session) (i : ℕ) (after : Session) (value : ℕ) where
       let party = holds (within 1 (layout s).parties i) ((within_words 1 (layout s).parties i).says.1 (p.least, p.most)) in
       (rw (formed, party), rw (formed, party))
 
-  pub refused : (r : Refusal) → told_by (λ (a : Unit {0}). 0) (Err r) ≡ unless_refused s i 0 → Answers s (told_of (Err r))
-  refused r e = by (well_formed s) (within 1 (layout s).parties i) e
+  -- what is told first is told in the end, where it is a refusal
+  pub refused_told : (t : Told) → t ≡ unless_refused s i 0 → (t.number ≡ 0 → ⊥) → Answers s t
+  refused_told t e n = by (well_formed s) (within 1 (layout s).parties i) e
     where
-      by : (w b : Bool) → told_of (Err r) ≡ Answer w b 0 → (s ≡ cond (w && b) after s) × (told_of (Err r) ≡ Answer w b value)
-      by true true f = let n = ap (λ (a : Told). a.number) f in absurd (omega (arith, refuses r))
+      by : (w b : Bool) → t ≡ Answer w b 0 → (s ≡ cond (w && b) after s) × (t ≡ Answer w b value)
+      by true true f = absurd (n (ap (λ (a : Told). a.number) f))
       by true false f = (refl, f)
       by false b f = (refl, f)
+
+  pub refused : (r : Refusal) → told_by (λ (a : Unit {0}). 0) (Err r) ≡ unless_refused s i 0 → Answers s (told_of (Err r))
+  refused r e = refused_told (told_of (Err r)) e (λ n. omega (arith, refuses r, n))
 
 -- past both tests
 pub past : (s : Session) (i : ℕ) → well_formed s ≡ true → within 1 (layout s).parties i ≡ true → Past s i
@@ -78,3 +85,12 @@ past s i formed party =
     let f = held (well_formed s) formed in
     let (least, most) = (within_words 1 (layout s).parties i).says.0 (held (within 1 (layout s).parties i) party) in
     record { formed = f; parties = parties_byte s f; least = least; most = most; few = le_trans most (parties_few s f) }
+
+-- who is told no refusal is past both
+pub past_told : (s : Session) (i : ℕ) (t : Told) → t ≡ unless_refused s i 0 → t.number ≡ 0 → Past s i
+past_told s i t e n = by (well_formed s) (within 1 (layout s).parties i) e (past s i)
+  where
+    by : (w b : Bool) → t ≡ Answer w b 0 → (w ≡ true → b ≡ true → Past s i) → Past s i
+    by true true f both = both refl refl
+    by true false f both = absurd (omega (arith, n, ap (λ (a : Told). a.number) f))
+    by false b f both = absurd (omega (arith, n, ap (λ (a : Told). a.number) f))

@@ -2,10 +2,11 @@
 use Prim.Native.Nat.{ℕ, ◌-◌, ◌<◌}
 use mathlib.Core.Path.{◌≡◌, ap, ◌∙◌}
 use mathlib.Core.List.{List}
+use native.Mathlib.Nat.{le_refl}
 use native.Mathlib.Omega.{arith}
 use borrow.Author.Tests.{le-leb}
 use lib.Dec.{T}
-use Rattle.sheet.specs.Rows.{layout_of, row_number, row_place, row_of, taken, parties_of, writes}
+use Rattle.sheet.specs.Rows.{layout_of, slot, row_number, row_place, row_of, taken, parties_of, writes}
 use Rattle.sheet.specs.Words.{In, IsSlot, Lower}
 use Rattle.rules.specs.Words.{Rules5}
 use Rattle.sheet.specs.declared.rows.Slot.{Slot}
@@ -42,3 +43,7 @@ module _ (s : List ℕ) (p : Slot) (rules : Rules5 s) (row : IsSlot (parties_of 
 
   pub pair_in_memory : Lower p → ((layout_of s).row p).pair < 1024
   pair_in_memory lower = in_memory _ ((rules.rows p row).pair_of_lower lower)
+
+-- a round's top has a row
+pub top_slot : {n : ℕ} {p : Slot} → IsSlot n p → IsSlot n (slot p.round p.round)
+top_slot {n} {p} row = let first = row.first in record { first = first; last = row.last; lowest = omega arith; top = le_refl p.round }

@@ -37,6 +37,11 @@ module _ (sheet proposals schedule out : List ℕ) where
 
   -- ---- the answer
 
+  pub run_unopened : (v : Result (Unit {0}) Refusal) (r : Refusal) → v ≡ Err r → answer_of v ≡ open_answer sheet proposals
+      → answer_of v ≡ run_answer sheet proposals schedule (length out)
+  unfolding run_at
+  run_unopened v r o e = sym (ap run_at (sym e) ∙ rw (refused_number (answer_of v) v r refl o))
+
   module _ (opened : done ≡ open_answer sheet proposals) where
     pub run_unscheduled : bad ≢ 0 → answer 8 (bad - 1) ≡ run_answer sheet proposals schedule (length out)
     unfolding run_at
