@@ -6,6 +6,7 @@ use mathlib.Core.Logic.{⊎_elim}
 use native.Mathlib.Omega.{arith}
 use lib.Dec.{T}
 use lib.ListN.{length, get_or, take, set, replicate}
+use lib.Seq.{take_all}
 use Rattle.sheet.specs.Lists.{from, all}
 use Rattle.sheet.specs.Rows.{layout_of, parties_of}
 use Rattle.rules.specs.Words.{Rules6}
@@ -52,6 +53,9 @@ going_first kept parties rules size count good copy e =
 
 module _ {sheet proposals schedule : List ℕ} {n : ℕ} {kept : List ℕ} {j : ℕ} {parties : List Party} {marks published : List ℕ}
     (g : Going sheet proposals schedule n kept j parties marks published) where
+  pub going_end : length schedule ≤ j → parties ≡ (ran sheet proposals schedule).parties
+  going_end h = g.shows.of_parties ∙ ap (λ (bs : List ℕ). (ran sheet proposals bs).parties) (take_all j schedule h)
+
   module _ (more : j < length schedule) where
     s : Session
     s = ran sheet proposals (take j schedule)
@@ -74,6 +78,9 @@ module _ {sheet proposals schedule : List ℕ} {n : ℕ} {kept : List ℕ} {j : 
 
     pub going_byte : Good n b
     going_byte = good n b few (all_at (byte_ok n) schedule j more g.good)
+
+    pub going_place : b % 128 - 1 < 16
+    going_place = let least = going_byte.least in let most = going_byte.most in let size = few in omega arith
 
     same : p.status ≡ (party_of s.parties (b % 128)).status
     unfolding s
