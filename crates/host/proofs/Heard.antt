@@ -18,6 +18,7 @@ use Rattle.sheet.proofs.FirstBad.{first_on, first_here}
 use Rattle.state.specs.Opening.{open_answer}
 use Rattle.record.specs.Record.{record_length}
 use Rattle.steps.specs.Run.{byte_ok, run_answer}
+use Rattle.host.specs.Word.{answer_word}
 use Rattle.host.specs.Calls.{bad_at}
 use Rattle.host.proofs.Opened.{open_most}
 
@@ -43,6 +44,10 @@ first_joined f a (z ∷ zs) x ys one bad =
 -- a schedule that has no such byte is heard as it is
 pub unheard : (last : ℕ) (schedule : List ℕ) → length schedule ≤ last → bad_at last schedule ≡ schedule
 unheard last schedule l = rw (le-ltb last (length schedule) l)
+
+-- a word that is 11 is of number 11
+number_11 : (a : Answer) → answer_word a ≡ 11 → a.number ≡ 11
+number_11 a e = omega (arith, e)
 
 module _ (last : ℕ) (sheet xs schedule : List ℕ) (long : last < length schedule) where
   abbrev front : List ℕ
@@ -134,3 +139,15 @@ module _ (last : ℕ) (sheet xs schedule : List ℕ) (long : last < length sched
       by : Cases → fronts ≡ whole
       by (inl x) = absurd (n (ap (λ (a : Answer). a.number) x.0))
       by (inr x) = x.1
+
+  -- the same of the words that say them
+  module _ (w : ℕ) (e : w ≡ answer_word fronts) where
+    pub word_behind : w ≡ 11 → answer_word (answer 8 last) ≡ answer_word whole
+    word_behind z = ap answer_word (bad_behind (number_11 fronts (sym e ∙ z)))
+
+    pub word_before : w ≢ 11 → w ≡ answer_word whole
+    word_before n = by cases
+      where
+        by : Cases → w ≡ answer_word whole
+        by (inl x) = absurd (n (e ∙ ap answer_word x.0))
+        by (inr x) = e ∙ ap answer_word x.1
