@@ -1,14 +1,17 @@
--- The text goes by the run's answer: it is that of the record where the run is done, and else of the refusal.
+-- A run that is done has the record of two parties, and the text goes by the run's answer.
 use Rattle.std.specs.Prelude.{Err}
 use mathlib.Core.Path.{◌≡◌, refl, sym, ap}
 use mathlib.Core.List.{List}
 use Prim.Native.Nat.{ℕ}
-use lib.ListN.{length}
+use lib.ListN.{length, get_or}
 use Rattle.answers.specs.Answers.{Answer, done, number_of, position_of, answer_of}
 use Rattle.answers.specs.declared.Refusal.{Refusal}
 use Rattle.answers.proofs.Refused.{refused_number}
 use Rattle.lister.specs.Text.{listing, refused_text}
 use Rattle.lister.specs.Listed.{answered, recorded, listed}
+
+pub two_parties : (schedule : List ℕ) → answered schedule ≡ done → get_or (recorded schedule) 3 0 ≡ 2
+two_parties schedule ok = rw ok refl
 
 pub listed_done : (schedule : List ℕ) → answered schedule ≡ done → listed schedule ≡ listing (recorded schedule) (length schedule)
 unfolding listed
