@@ -4,7 +4,7 @@ use mathlib.Core.Path.{◌≡◌, refl, sym, ap, ◌∙◌}
 use mathlib.Core.List.{List, ◌++◌, append_assoc}
 use native.Mathlib.Omega.{arith}
 use borrow.Author.Rules.{rules}
-use lib.ListN.{length, drop, replicate, replicate-append-replicate}
+use lib.ListN.{length, replicate, replicate-append-replicate}
 use Rattle.state.specs.Session.{filled}
 use Rattle.image.specs.Image.{proposals_bytes, parties_bytes}
 use Rattle.image.proofs.Written.{Written, up_to, then_filled, then_lent, then_full}

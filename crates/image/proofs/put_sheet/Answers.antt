@@ -5,7 +5,6 @@ use mathlib.Core.List.{List, ◌++◌}
 use native.Mathlib.Nat.{zero-add}
 use native.Mathlib.Numerals.{add-one}
 use native.Mathlib.Omega.{arith}
-use borrow.Author.Rules.{rules}
 use lib.ListN.{length, get_or, set, take, drop}
 use lib.Seq.{paste, paste-suc, take_all}
 use Rattle.image.proofs.put_sheet.Goals as goal
